@@ -1,5 +1,5 @@
 -- The runs that files ask for can be asked for.
-use Rattle.std.proofs.Common.{◌≡◌, ℕ, zero, suc, ◌+◌, ◌/◌, ◌%◌, ◌^◌, ◌==◌, ◌≤◌, ◌<◌, Bool, true, false, not, cond, min, nat_le, List, [], ◌∷◌, ◌++◌, length, Option, Some, None, arith, refl, sym, ap, ◌∙◌}
+use Rattle.std.proofs.Common.{◌≡◌, ℕ, zero, suc, ◌+◌, ◌/◌, ◌%◌, ◌^◌, ◌==◌, ◌≤◌, ◌<◌, Bool, true, false, not, cond, min, nat_le, List, [], ◌∷◌, ◌++◌, length, Option, Some, None, append-nil, arith, refl, sym, ap, ◌∙◌}
 use Rattle.std.specs.List.{All, flat_map, range_with_len}
 use Rattle.std.specs.Option.{MatchOption}
 use Rattle.std.specs.Cmp.Derive.{both_true}
@@ -123,3 +123,15 @@ pub objects_are : (v : Volume) (starts : List ℕ) (ns : List ProtoNode) (conten
     → flat_map (objects_of_place v starts ns contents) (object_order ns) ≡ all_objects v starts ns contents
 unfolding all_objects
 objects_are v starts ns contents = refl
+
+-- the object of runs, where there are some
+pub one_object : (before new : List Object) (kind due_kind : ObjectKind) (ino due_ino : ℕ) (runs due held : List RunAsk) → 0 < length runs → ino ≡ due_ino → kind ≡ due_kind → held ≡ runs → runs ≡ due
+    → new ≡ before ++ record { ino = ino; kind = kind; runs = held; most = 21 } ∷ [] → new ≡ before ++ object_with_runs due_kind due_ino due
+one_object before new kind due_kind ino due_ino [] due held some number sort holds is pushed = absurd (omega (arith, some))
+one_object before new kind due_kind ino due_ino (run ∷ runs) due held some number sort holds is pushed =
+    pushed ∙ ap (λ (rs : List RunAsk). before ++ record { ino = ino; kind = kind; runs = rs; most = 21 } ∷ []) holds
+    ∙ (λ i. before ++ object_with_runs (sort i) (number i) (run ∷ runs)) ∙ ap (λ (rs : List RunAsk). before ++ object_with_runs due_kind due_ino rs) is
+
+pub no_object : (before : List Object) (kind : ObjectKind) (ino : ℕ) (runs due : List RunAsk) → length runs ≡ 0 → runs ≡ due → before ≡ before ++ object_with_runs kind ino due
+no_object before kind ino [] due none is = sym (append-nil before) ∙ ap (λ (rs : List RunAsk). before ++ object_with_runs kind ino rs) is
+no_object before kind ino (run ∷ runs) due none is = absurd (omega (arith, none))

@@ -1,4 +1,5 @@
 use Rattle.std.proofs.Common.{◌∙◌, ap, length, take, refl}
+use Rattle.std.proofs.lemmas.Result.{IfOk-from_err}
 use Rattle.xfs_place.specs.Chunks.{asked_rooms}
 use Rattle.xfs_place.specs.declared.chunk_search.ChunkAsk.{ChunkAsk}
 use Rattle.xfs_filled.proofs.Asked.{chunks_lacking, rooms_found, starts_are}
@@ -23,3 +24,30 @@ returns-in-Ok-clause-spared c = c.chunks_placed.ensures.spared ∙ ap (λ (a : C
 
 pub returns-in-Err-clause-cause : goal.returns-in-Err-clause-cause
 returns-in-Err-clause-cause c = chunks_lacking c.args.g.now c.args.files c.in_ok-ask.ask c.in-Err.fault c.in_ok-ask.ensures c.in-Err.ensures.cause
+
+pub returns-in_err-ask-clause-starts : goal.returns-in_err-ask-clause-starts
+returns-in_err-ask-clause-starts c = IfOk-from_err c.from_residual.result _ c.from_residual.ensures.0
+
+pub returns-in-Err-clause-starts : goal.returns-in-Err-clause-starts
+returns-in-Err-clause-starts c = tt
+
+pub returns-in_err-ask-clause-enough : goal.returns-in_err-ask-clause-enough
+returns-in_err-ask-clause-enough c = IfOk-from_err c.from_residual.result _ c.from_residual.ensures.0
+
+pub returns-in-Err-clause-enough : goal.returns-in-Err-clause-enough
+returns-in-Err-clause-enough c = tt
+
+pub returns-in_err-ask-clause-room : goal.returns-in_err-ask-clause-room
+returns-in_err-ask-clause-room c = IfOk-from_err c.from_residual.result _ c.from_residual.ensures.0
+
+pub returns-in-Err-clause-room : goal.returns-in-Err-clause-room
+returns-in-Err-clause-room c = tt
+
+pub returns-in_err-ask-clause-spared : goal.returns-in_err-ask-clause-spared
+returns-in_err-ask-clause-spared c = IfOk-from_err c.from_residual.result _ c.from_residual.ensures.0
+
+pub returns-in-Err-clause-spared : goal.returns-in-Err-clause-spared
+returns-in-Err-clause-spared c = tt
+
+pub returns-in-Ok-clause-cause : goal.returns-in-Ok-clause-cause
+returns-in-Ok-clause-cause c = tt

@@ -14,3 +14,15 @@ push_target-requires c =
     let few = can.1 in
     let long = ap length c.bytes.ensures in
     omega (arith, few, long)
+
+pub content_at-requires-clause-site : goal.content_at-requires-clause-site
+content_at-requires-clause-site c = c.requires.site
+
+pub content_at-requires-clause-inside : goal.content_at-requires-clause-inside
+content_at-requires-clause-inside c = c.requires.inside
+
+pub directory_at-requires-clause-site : goal.directory_at-requires-clause-site
+directory_at-requires-clause-site c = c.requires.site
+
+pub directory_at-requires-clause-inside : goal.directory_at-requires-clause-inside
+directory_at-requires-clause-inside c = c.requires.inside

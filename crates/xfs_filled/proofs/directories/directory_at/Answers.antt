@@ -1,4 +1,5 @@
 use Rattle.std.proofs.Common.{◌≡◌, length, get_or, arith, sym, subst, ap, ◌∙◌}
+use Rattle.std.proofs.lemmas.Result.{IfOk-from_err}
 use Rattle.std.specs.List.{All}
 use Rattle.std.proofs.lemmas.List.{get_or_default}
 use Rattle.std.proofs.lemmas.List.FromFn.{length-map-range_with_len}
@@ -62,3 +63,34 @@ returns-clause-image c =
     image_is v starts ns k c.as_slice.result.now c.number_of-dir.result c.number_of-parent.result
     (c.as_slice.ensures ∙ c.index-entries-k.is ∙ entries_listed v starts ns c.args.entries.now c.index-entries-k.result k c.requires.inside c.requires.entries)
     c.number_of-dir.ensures.value (c.number_of-parent.ensures.value ∙ ap (λ (x : ProtoNode). number_of v starts x.parent) node) c.in_ok-made.ensures.image
+
+pub number_of-dir-requires-clause-few : goal.number_of-dir-requires-clause-few
+number_of-dir-requires-clause-few c = c.requires.placed.few
+
+pub number_of-dir-requires-clause-volume : goal.number_of-dir-requires-clause-volume
+number_of-dir-requires-clause-volume c = c.requires.placed.volume
+
+pub number_of-parent-requires-clause-few : goal.number_of-parent-requires-clause-few
+number_of-parent-requires-clause-few c = c.requires.placed.few
+
+pub number_of-parent-requires-clause-volume : goal.number_of-parent-requires-clause-volume
+number_of-parent-requires-clause-volume c = c.requires.placed.volume
+
+pub number_of-dir-requires-clause-inside : goal.number_of-dir-requires-clause-inside
+number_of-dir-requires-clause-inside c = omega (arith, c.requires.inside, c.requires.placed.enough)
+
+pub returns-in_err-made : goal.returns-in_err-made
+returns-in_err-made c = record {
+  value = IfOk-from_err c.from_residual.result _ c.from_residual.ensures.0;
+  sound = IfOk-from_err c.from_residual.result _ c.from_residual.ensures.0;
+  image = IfOk-from_err c.from_residual.result _ c.from_residual.ensures.0;
+}
+
+pub returns-clause-sound : goal.returns-clause-sound
+returns-clause-sound c = c.in_ok-made.ensures.sound
+
+pub make_directory-requires-clause-dir : goal.make_directory-requires-clause-dir
+make_directory-requires-clause-dir c = omega (arith, c.number_of-dir.ensures.low)
+
+pub make_directory-requires-clause-parent : goal.make_directory-requires-clause-parent
+make_directory-requires-clause-parent c = omega (arith, c.number_of-parent.ensures.low)

@@ -1,7 +1,9 @@
 use Rattle.std.proofs.Common.{◌≡◌, inl, inr, ℕ, ◌+◌, ◌<◌, true, ◌++◌, List, Option, [], ◌∷◌, zero, suc, arith, sym, subst, ap₂, ◌∙◌}
+use borrow.Author.Count.{falls}
+use Rattle.std.proofs.lemmas.Result.{IfOk-from_err}
 use Rattle.std.specs.List.{All}
 use Rattle.std.proofs.lemmas.Bool.{cases_lt}
-use Rattle.std.proofs.lemmas.List.Elements.{All-append}
+use Rattle.std.proofs.lemmas.List.Elements.{All-append, All-nil}
 use Rattle.std.proofs.lemmas.List.FromFn.{map-range_with_len_more}
 use Rattle.xfs_geom.specs.Volumes.{Volume, volume_of}
 use Rattle.xfs_proto.specs.declared.protofile.ProtoNode.{ProtoNode}
@@ -42,3 +44,55 @@ loop-k-preserved c =
 pub returns-clause-images : goal.returns-clause-images
 returns-clause-images c =
     record { each = λ j low is. let done = c.loop-k-test.false in c.loop-k.invariant.images j (omega (arith, low, done)) is }
+
+pub list_entries-requires-clause-placed : goal.list_entries-requires-clause-placed
+list_entries-requires-clause-placed c = c.requires.placed
+
+pub list_entries-requires-clause-files : goal.list_entries-requires-clause-files
+list_entries-requires-clause-files c = c.requires.files
+
+pub directory_at-requires-clause-placed : goal.directory_at-requires-clause-placed
+directory_at-requires-clause-placed c = c.requires.placed
+
+pub directory_at-requires-clause-files : goal.directory_at-requires-clause-files
+directory_at-requires-clause-files c = c.requires.files
+
+pub directory_at-requires-clause-entries : goal.directory_at-requires-clause-entries
+directory_at-requires-clause-entries c = c.deref.ensures.value ∙ c.in_ok-entries.ensures
+
+pub directory_at-requires-clause-inside : goal.directory_at-requires-clause-inside
+directory_at-requires-clause-inside c = c.loop-k-test.true
+
+pub loop-k-init : goal.loop-k-init
+loop-k-init c = record {
+  all = c.new-all.ensures.items;
+  sound = subst (All IsSoundWhere) (sym c.new-all.ensures.items) (All-nil IsSoundWhere);
+  images = λ j low. absurd (omega (arith, low));
+}
+
+pub loop-k-smaller : goal.loop-k-smaller
+loop-k-smaller c = falls _ c.loop-k.k c.loop-k-test.true
+
+pub returns-in_err-entries : goal.returns-in_err-entries
+returns-in_err-entries c = record {
+  value = IfOk-from_err c.from_residual.result _ c.from_residual.ensures.0;
+  sound = IfOk-from_err c.from_residual.result _ c.from_residual.ensures.0;
+  images = IfOk-from_err c.from_residual.result _ c.from_residual.ensures.0;
+}
+
+pub returns-in_err-directory_at : goal.returns-in_err-directory_at
+returns-in_err-directory_at c = record {
+  value = IfOk-from_err c.from_residual-in_err-directory_at.result _ c.from_residual-in_err-directory_at.ensures.0;
+  sound = IfOk-from_err c.from_residual-in_err-directory_at.result _ c.from_residual-in_err-directory_at.ensures.0;
+  images = IfOk-from_err c.from_residual-in_err-directory_at.result _ c.from_residual-in_err-directory_at.ensures.0;
+}
+
+pub returns-in_err-push : goal.returns-in_err-push
+returns-in_err-push c = record {
+  value = IfOk-from_err c.from_residual-in_err-push.result _ c.from_residual-in_err-push.ensures.0;
+  sound = IfOk-from_err c.from_residual-in_err-push.result _ c.from_residual-in_err-push.ensures.0;
+  images = IfOk-from_err c.from_residual-in_err-push.result _ c.from_residual-in_err-push.ensures.0;
+}
+
+pub returns-clause-sound : goal.returns-clause-sound
+returns-clause-sound c = c.loop-k.invariant.sound

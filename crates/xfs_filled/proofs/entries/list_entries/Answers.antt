@@ -1,4 +1,6 @@
 use Rattle.std.proofs.Common.{◌≡◌, ◌+◌, ◌++◌, [], ◌∷◌, length, get_or, arith, sym, ap, ◌∙◌, subst, length-set}
+use borrow.Author.Count.{falls}
+use Rattle.std.proofs.lemmas.Result.{IfOk-from_err}
 use Rattle.std.proofs.lemmas.List.{get_or_default, with_items_is}
 use Rattle.xfs_geom.specs.Volumes.{volume_of}
 use Rattle.xfs_proto.specs.declared.protofile.ProtoNode.{ProtoNode}
@@ -45,3 +47,21 @@ returns c =
     let one = c.requires.files.some in
     let same : c.loop-i.i ≡ length ns = omega (arith, end, past, one) in
     all_below v starts ns c.loop-i.lists.items (subst (λ m. AreBelow v starts ns m c.loop-i.lists.items) same c.loop-i.invariant.below)
+
+pub returns-in_err-lists : goal.returns-in_err-lists
+returns-in_err-lists c = IfOk-from_err c.from_residual.result _ c.from_residual.ensures.0
+
+pub returns-in_err-entry : goal.returns-in_err-entry
+returns-in_err-entry c = IfOk-from_err c.from_residual-in_err-entry.result _ c.from_residual-in_err-entry.ensures.0
+
+pub returns-in_err-add_entry : goal.returns-in_err-add_entry
+returns-in_err-add_entry c = IfOk-from_err c.from_residual-in_err-add_entry.result _ c.from_residual-in_err-add_entry.ensures.0
+
+pub entry_at-requires-clause-placed : goal.entry_at-requires-clause-placed
+entry_at-requires-clause-placed c = c.requires.placed
+
+pub entry_at-requires-clause-inside : goal.entry_at-requires-clause-inside
+entry_at-requires-clause-inside c = c.loop-i-test.true
+
+pub loop-i-smaller : goal.loop-i-smaller
+loop-i-smaller c = falls _ c.loop-i.i c.loop-i-test.true

@@ -1,4 +1,9 @@
-use Rattle.std.proofs.Common.{[]}
+use Rattle.std.proofs.Common.{[], ◌∙◌, ap, sym, subst, take_all, arith}
+use Rattle.xfs_word.specs.Extent.{IsPackable}
+use Rattle.std.proofs.lemmas.List.Elements.{All-nil}
+use Rattle.std.specs.List.{All, flat_map}
+use borrow.Author.Count.{falls}
+use Rattle.std.proofs.lemmas.Result.{IfOk-from_err}
 use Rattle.xfs_geom.specs.Volumes.{volume_of}
 use Rattle.xfs_geom.specs.declared.records.Run.{Run}
 use Rattle.xfs_render.proofs.ObjectSteps.{flat_more}
@@ -26,3 +31,22 @@ push_extents-requires-clause-offset c =
 
 pub push_extents-requires-clause-small : goal.push_extents-requires-clause-small
 push_extents-requires-clause-small c = c.loop-run.invariant.small
+
+pub loop-run-init : goal.loop-run-init
+loop-run-init c = record { value = c.new-extents.ensures.items; small = subst (All IsPackable) (sym c.new-extents.ensures.items) (All-nil IsPackable) }
+
+pub loop-run-smaller : goal.loop-run-smaller
+loop-run-smaller c = falls _ c.loop-run.run-index c.loop-run-test.true
+
+pub returns-in_err-push_extents : goal.returns-in_err-push_extents
+returns-in_err-push_extents c = record {
+  value = IfOk-from_err c.from_residual.result _ c.from_residual.ensures.0;
+  small = IfOk-from_err c.from_residual.result _ c.from_residual.ensures.0;
+}
+
+pub returns : goal.returns
+returns c = record {
+  value = c.loop-run.invariant.value
+      ∙ ap (flat_map (extents_of_run (volume_of c.args.g.now))) (take_all c.loop-run.run-index c.args.runs.now (omega (arith, c.loop-run-test.false)));
+  small = c.loop-run.invariant.small;
+}

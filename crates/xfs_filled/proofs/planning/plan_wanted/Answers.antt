@@ -30,3 +30,42 @@ plan_placed-requires-clause-stands g c = λ κs lives.
       pool = c.in-Ok.ensures.pool;
       counts' = c.in-Ok.ensures.counts;
     }
+
+pub plan_placed-requires-clause-site : goal.plan_placed-requires-clause-site
+plan_placed-requires-clause-site g c = λ κs lives. c.requires.site
+
+pub plan_placed-requires-clause-accepted : goal.plan_placed-requires-clause-accepted
+plan_placed-requires-clause-accepted g c = λ κs lives. c.requires.accepted
+
+pub plan_placed-requires-clause-states : goal.plan_placed-requires-clause-states
+plan_placed-requires-clause-states g c = λ κs lives. c.requires.states
+
+pub plan_placed-requires-clause-chunk : goal.plan_placed-requires-clause-chunk
+plan_placed-requires-clause-chunk g c = λ κs lives. c.requires.chunk
+
+pub plan_placed-requires-clause-starts : goal.plan_placed-requires-clause-starts
+plan_placed-requires-clause-starts g c = λ κs lives. c.requires.starts
+
+pub plan_placed-requires-clause-wanted : goal.plan_placed-requires-clause-wanted
+plan_placed-requires-clause-wanted g c = λ κs lives. c.requires.wanted
+
+pub returns-in-Ok : goal.returns-in-Ok
+returns-in-Ok g c = record {
+  rendered = c.plan_placed.ensures.rendered;
+  inside = c.plan_placed.ensures.inside;
+  held = c.plan_placed.ensures.held;
+  room = c.plan_placed.ensures.room;
+  cause = c.plan_placed.ensures.cause;
+}
+
+pub returns-in-Err-clause-rendered : goal.returns-in-Err-clause-rendered
+returns-in-Err-clause-rendered g c = tt
+
+pub returns-in-Err-clause-inside : goal.returns-in-Err-clause-inside
+returns-in-Err-clause-inside g c = tt
+
+pub returns-in-Err-clause-held : goal.returns-in-Err-clause-held
+returns-in-Err-clause-held g c = tt
+
+pub returns-in-Err-clause-room : goal.returns-in-Err-clause-room
+returns-in-Err-clause-room g c = tt

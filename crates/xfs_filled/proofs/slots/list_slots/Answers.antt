@@ -1,4 +1,6 @@
 use Rattle.std.proofs.Common.{ℕ, ◌++◌, List, [], ◌∷◌, map, arith, sym, ap, ap₂, ◌∙◌}
+use borrow.Author.Count.{falls}
+use Rattle.std.proofs.lemmas.Result.{IfOk-from_err}
 use Rattle.std.specs.List.{range_with_len}
 use Rattle.std.proofs.lemmas.List.FromFn.{map-range_with_len_more}
 use Rattle.xfs_geom.specs.Volumes.{volume_of}
@@ -25,3 +27,36 @@ returns c =
     let past = c.loop-j-test.false in
     let end = c.loop-j.auto.j-end in
     c.loop-j.invariant.all ∙ ap (λ (n : ℕ). map f (range_with_len 0 n)) (omega (arith, past, end)) ∙ slots_are v c.args.stamp.now starts site.nodes.now site.contents.now c.args.runs.now
+
+pub list_spans-requires-clause-site : goal.list_spans-requires-clause-site
+list_spans-requires-clause-site c = c.requires.site
+
+pub list_spans-requires-clause-runs : goal.list_spans-requires-clause-runs
+list_spans-requires-clause-runs c = c.requires.runs
+
+pub returns-in_err-spans : goal.returns-in_err-spans
+returns-in_err-spans c = IfOk-from_err c.from_residual.result _ c.from_residual.ensures.0
+
+pub returns-in_err-slots : goal.returns-in_err-slots
+returns-in_err-slots c = IfOk-from_err c.from_residual-in_err-slots.result _ c.from_residual-in_err-slots.ensures.0
+
+pub returns-in_err-slot_at : goal.returns-in_err-slot_at
+returns-in_err-slot_at c = IfOk-from_err c.from_residual-in_err-slot_at.result _ c.from_residual-in_err-slot_at.ensures.0
+
+pub returns-in_err-push : goal.returns-in_err-push
+returns-in_err-push c = IfOk-from_err c.from_residual-in_err-push.result _ c.from_residual-in_err-push.ensures.0
+
+pub slot_at-requires-clause-site : goal.slot_at-requires-clause-site
+slot_at-requires-clause-site c = c.requires.site
+
+pub slot_at-requires-clause-inside : goal.slot_at-requires-clause-inside
+slot_at-requires-clause-inside c = c.requires.inside
+
+pub slot_at-requires-clause-offsets : goal.slot_at-requires-clause-offsets
+slot_at-requires-clause-offsets c = c.requires.offsets
+
+pub slot_at-requires-clause-slot : goal.slot_at-requires-clause-slot
+slot_at-requires-clause-slot c = c.loop-j-test.true
+
+pub loop-j-smaller : goal.loop-j-smaller
+loop-j-smaller c = falls _ c.loop-j.j c.loop-j-test.true

@@ -40,3 +40,27 @@ returns-then-j-site c =
     (λ w is. slot_is v c.args.stamp.now starts ns contents runs c.args.j k (owned_by (number_of v starts k) runs) w none.0 none.1
     (lt-ltb c.args.j (length ns + 2) less) c.saturating_sub-k.ensures refl is)
     c.spanned_slot.ensures
+
+pub inode_at-ino-requires-clause-inside : goal.inode_at-ino-requires-clause-inside
+inode_at-ino-requires-clause-inside c = c.requires.slot
+
+pub inode_at-ino-requires-clause-volume : goal.inode_at-ino-requires-clause-volume
+inode_at-ino-requires-clause-volume c = c.requires.site.placed.volume
+
+pub inode_at-requires-clause-inside : goal.inode_at-requires-clause-inside
+inode_at-requires-clause-inside c = c.requires.slot
+
+pub inode_at-requires-clause-volume : goal.inode_at-requires-clause-volume
+inode_at-requires-clause-volume c = c.requires.site.placed.volume
+
+pub spanned_slot-requires-clause-site : goal.spanned_slot-requires-clause-site
+spanned_slot-requires-clause-site c = c.requires.site
+
+pub spanned_slot-requires-clause-inside : goal.spanned_slot-requires-clause-inside
+spanned_slot-requires-clause-inside c = c.requires.inside
+
+pub spanned_slot-requires-clause-offsets : goal.spanned_slot-requires-clause-offsets
+spanned_slot-requires-clause-offsets c = c.requires.offsets
+
+pub spanned_slot-requires-clause-spans : goal.spanned_slot-requires-clause-spans
+spanned_slot-requires-clause-spans c = c.requires.spans

@@ -50,3 +50,9 @@ returns c =
     ∙ ap (λ (rs : List Run). made_slot (number_of v starts k) (core_at v c.args.stamp.now starts ns k) (fork_of_place v starts ns contents (flat_map (extents_of_run v) rs) k))
     (c.requires.spans.each k c.requires.file).are)
     c.file_slot.ensures
+
+pub file_slot-requires-clause-site : goal.file_slot-requires-clause-site
+file_slot-requires-clause-site c = c.requires.site
+
+pub file_slot-requires-clause-file : goal.file_slot-requires-clause-file
+file_slot-requires-clause-file c = c.requires.file
