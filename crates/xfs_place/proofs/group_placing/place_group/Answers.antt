@@ -1,4 +1,5 @@
-use Rattle.std.proofs.Common.{◌≡◌, ◌≤◌, ℕ, List, length, sym, subst, arith, Option, Some, None}
+use Rattle.std.proofs.Common.{◌≡◌, ◌≤◌, ℕ, List, length, sym, subst, arith, Option, Some, None, ◌∙◌}
+use Rattle.std.proofs.lemmas.Result.{IfOk-from_err}
 use Rattle.std.specs.Option.{MatchOption}
 use Rattle.xfs_geom.specs.declared.records.Run.{Run}
 use Rattle.xfs_place.specs.declared.uses.Use.{Use}
@@ -44,3 +45,45 @@ returns c =
     let due = inner_blocks c.args.inodes.now in
     let some = chosen_is uses claims c.inner_size-inner.result due c.in_ok-blocks.field-0 (Some c.in-Some.blocks) c.inner_size-inner.ensures.value c.in-Some.is c.in_ok-blocks.ensures.chosen in
     c.in_ok-placed.ensures (subst (λ (n : ℕ). IsChosenCount (group_claimed uses claims due) (Some n)) (sym c.in_ok-taken.ensures.all) some)
+
+pub returns-in_err-fino : goal.returns-in_err-fino
+returns-in_err-fino c = IfOk-from_err c.from_residual.result _ c.from_residual.ensures.0
+
+pub returns-in_err-blocks : goal.returns-in_err-blocks
+returns-in_err-blocks c = IfOk-from_err c.from_residual-in_err-blocks.result _ c.from_residual-in_err-blocks.ensures.0
+
+pub returns-in_err-taken : goal.returns-in_err-taken
+returns-in_err-taken c = IfOk-from_err c.from_residual-in_err-taken.result _ c.from_residual-in_err-taken.ensures.0
+
+pub returns-in_err-placed : goal.returns-in_err-placed
+returns-in_err-placed c = IfOk-from_err c.from_residual-in_err-placed.result _ c.from_residual-in_err-placed.ensures.0
+
+pub inner_size-inner-requires-clause-few : goal.inner_size-inner-requires-clause-few
+inner_size-inner-requires-clause-few c = c.requires.few.1
+
+pub inner_size-inner-requires-clause-free : goal.inner_size-inner-requires-clause-free
+inner_size-inner-requires-clause-free c = c.deref.ensures.value ∙ c.in_ok-fino.ensures
+
+pub choose_blocks-requires-clause-few : goal.choose_blocks-requires-clause-few
+choose_blocks-requires-clause-few c = c.requires.few.0
+
+pub choose_blocks-requires-clause-claims : goal.choose_blocks-requires-clause-claims
+choose_blocks-requires-clause-claims c = c.requires.claims
+
+pub first-requires-clause-few : goal.first-requires-clause-few
+first-requires-clause-few c = omega (arith, c.requires.few.0)
+
+pub fill_group-requires-clause-few : goal.fill_group-requires-clause-few
+fill_group-requires-clause-few c = c.requires.few
+
+pub fill_group-requires-clause-base : goal.fill_group-requires-clause-base
+fill_group-requires-clause-base c = c.requires.base
+
+pub fill_group-requires-clause-group : goal.fill_group-requires-clause-group
+fill_group-requires-clause-group c = c.requires.group
+
+pub fill_group-requires-clause-claims : goal.fill_group-requires-clause-claims
+fill_group-requires-clause-claims c = c.requires.claims
+
+pub fill_group-requires-clause-taken : goal.fill_group-requires-clause-taken
+fill_group-requires-clause-taken c = c.in_ok-taken.ensures.stands

@@ -1,4 +1,5 @@
 use Rattle.std.proofs.Common.{◌≡◌, ◌≤◌, List, length, drop, sym, ap, subst, ◌∙◌, arith}
+use Rattle.std.proofs.lemmas.Result.{IfOk-from_err}
 use Rattle.xfs_geom.specs.Volumes.{volume_of}
 use Rattle.xfs_geom.specs.declared.records.Run.{Run}
 use Rattle.xfs_place.specs.Wanted.{ArePlaced, CanBeKept}
@@ -29,3 +30,24 @@ returns-clause-told c =
     c.placed_of.ensures.runs c.placed_of.ensures.cuts c.placed_of.ensures.groups c.placed_of.ensures.counts
     (subst (λ (rs : List Run). ArePlaced v rs w.reserved w.inodes w.geometry.agcount groups) c.deref.ensures.value c.in_ok-groups.ensures.placed)
     (subst (λ (rs : List Run). AreOfPool v rs w.reserved w.inodes w.geometry.agcount groups) c.deref.ensures.value c.in_ok-groups.ensures.pool)
+
+pub place_wanted-requires-clause-inodes : goal.place_wanted-requires-clause-inodes
+place_wanted-requires-clause-inodes c = c.requires.inodes
+
+pub place_wanted-requires-clause-few : goal.place_wanted-requires-clause-few
+place_wanted-requires-clause-few c = c.requires.few
+
+pub placed_of-requires-clause-inodes : goal.placed_of-requires-clause-inodes
+placed_of-requires-clause-inodes c = c.requires.inodes
+
+pub placed_of-requires-clause-few : goal.placed_of-requires-clause-few
+placed_of-requires-clause-few c = c.requires.few
+
+pub returns-in_err-groups-clause-told : goal.returns-in_err-groups-clause-told
+returns-in_err-groups-clause-told c = IfOk-from_err c.from_residual.result _ c.from_residual.ensures.0
+
+pub returns-in_err-runs-clause-told : goal.returns-in_err-runs-clause-told
+returns-in_err-runs-clause-told c = IfOk-from_err c.from_residual-in_err-runs.result _ c.from_residual-in_err-runs.ensures.0
+
+pub returns-clause-cause : goal.returns-clause-cause
+returns-clause-cause c = tt

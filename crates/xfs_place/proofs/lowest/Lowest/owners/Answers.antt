@@ -34,3 +34,48 @@ returns-clause-small c =
       c.sum_of_inodes.ensures.small,
       c.sum_of_space.ensures.small,
     )
+
+pub sum_of_inodes-requires-clause-few : goal.sum_of_inodes-requires-clause-few
+sum_of_inodes-requires-clause-few c = omega (arith, c.min-from.ensures, c.len-all.ensures, c.args.self.now.blocks.ok.0)
+
+pub sum_of_inodes-requires-clause-all : goal.sum_of_inodes-requires-clause-all
+sum_of_inodes-requires-clause-all c = c.requires.few
+
+pub sum_of_inodes-requires-clause-stands : goal.sum_of_inodes-requires-clause-stands
+sum_of_inodes-requires-clause-stands c = c.requires.stands
+
+pub sum_of_space-requires-clause-few : goal.sum_of_space-requires-clause-few
+sum_of_space-requires-clause-few c = omega (arith, c.min-to.ensures, c.len-all.ensures, c.args.self.now.blocks.ok.0)
+
+pub sum_of_space-requires-clause-all : goal.sum_of_space-requires-clause-all
+sum_of_space-requires-clause-all c = c.requires.few
+
+pub sum_of_space-requires-clause-stands : goal.sum_of_space-requires-clause-stands
+sum_of_space-requires-clause-stands c = c.requires.stands
+
+pub sum_of_space-requires-2-clause-few : goal.sum_of_space-requires-2-clause-few
+sum_of_space-requires-2-clause-few c = omega (arith, c.min-from.ensures, c.len-all.ensures, c.args.self.now.blocks.ok.0)
+
+pub sum_of_space-requires-2-clause-all : goal.sum_of_space-requires-2-clause-all
+sum_of_space-requires-2-clause-all c = c.requires.few
+
+pub sum_of_space-requires-2-clause-stands : goal.sum_of_space-requires-2-clause-stands
+sum_of_space-requires-2-clause-stands c = c.requires.stands
+
+pub sum_of_inodes-requires-2-clause-few : goal.sum_of_inodes-requires-2-clause-few
+sum_of_inodes-requires-2-clause-few c = omega (arith, c.min-to.ensures, c.len-all.ensures, c.args.self.now.blocks.ok.0)
+
+pub sum_of_inodes-requires-2-clause-all : goal.sum_of_inodes-requires-2-clause-all
+sum_of_inodes-requires-2-clause-all c = c.requires.few
+
+pub sum_of_inodes-requires-2-clause-stands : goal.sum_of_inodes-requires-2-clause-stands
+sum_of_inodes-requires-2-clause-stands c = c.requires.stands
+
+pub sum_of_space-requires-3-clause-few : goal.sum_of_space-requires-3-clause-few
+sum_of_space-requires-3-clause-few c = omega (arith, c.len-all.ensures, c.args.self.now.blocks.ok.0)
+
+pub sum_of_space-requires-3-clause-all : goal.sum_of_space-requires-3-clause-all
+sum_of_space-requires-3-clause-all c = c.requires.few
+
+pub sum_of_space-requires-3-clause-stands : goal.sum_of_space-requires-3-clause-stands
+sum_of_space-requires-3-clause-stands c = c.requires.stands

@@ -118,3 +118,15 @@ returns-in_err-placed-clause-long c = IfOk-from_err c.from_residual-in_err-place
 
 pub returns-in_err-placed-clause-cuts : goal.returns-in_err-placed-clause-cuts
 returns-in_err-placed-clause-cuts c = IfOk-from_err c.from_residual-in_err-placed.result _ c.from_residual-in_err-placed.ensures.0
+
+pub put_asks-requires-clause-asks : goal.put_asks-requires-clause-asks
+put_asks-requires-clause-asks c = c.requires.asks
+
+pub put_asks-requires-clause-first : goal.put_asks-requires-clause-first
+put_asks-requires-clause-first c = c.requires.first
+
+pub put_asks-requires-clause-kept : goal.put_asks-requires-clause-kept
+put_asks-requires-clause-kept c = c.requires.kept
+
+pub put_asks-requires-clause-pool : goal.put_asks-requires-clause-pool
+put_asks-requires-clause-pool c = c.requires.pool
