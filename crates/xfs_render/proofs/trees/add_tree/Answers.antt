@@ -1,4 +1,5 @@
 use Rattle.std.proofs.Common.{◌≡◌, ◌∙◌, ◌≤◌, List, ℕ, length, drop, ap, sym, subst, arith, take_all}
+use Rattle.std.proofs.lemmas.Result.{IfOk-from_err}
 use Rattle.std.proofs.lemmas.List.{take-append-le}
 use Rattle.std.proofs.lemmas.List.Elements.{All-from_get_or}
 use Rattle.xfs_treebuild.specs.Exact.{IsExact}
@@ -30,3 +31,30 @@ returns g c =
                 (λ j inside. subst (IsExact s) (sym (blocks j inside)) (c.pack.ensures.exact j inside));
           };
     }
+
+pub pack-requires-clause-lawful : goal.pack-requires-clause-lawful
+pack-requires-clause-lawful g c = λ κs lives. c.requires.can_pack.lawful
+
+pub pack-requires-clause-size : goal.pack-requires-clause-size
+pack-requires-clause-size g c = λ κs lives. c.requires.can_pack.size
+
+pub pack-requires-clause-can_hold : goal.pack-requires-clause-can_hold
+pack-requires-clause-can_hold g c = λ κs lives. c.requires.can_pack.held
+
+pub pack-requires-clause-different : goal.pack-requires-clause-different
+pack-requires-clause-different g c = λ κs lives. c.requires.can_pack.different
+
+pub pack-requires-clause-few : goal.pack-requires-clause-few
+pack-requires-clause-few g c = λ κs lives. omega (arith, c.requires.can_pack.few)
+
+pub add-requires-clause-draft : goal.add-requires-clause-draft
+add-requires-clause-draft g c = c.requires.draft
+
+pub returns-in_err-part : goal.returns-in_err-part
+returns-in_err-part g c = IfOk-from_err c.from_residual.result _ c.from_residual.ensures.0
+
+pub returns-in_err-add : goal.returns-in_err-add
+returns-in_err-add g c = IfOk-from_err c.from_residual-in_err-add.result _ c.from_residual-in_err-add.ensures.0
+
+pub returns-in_default : goal.returns-in_default
+returns-in_default g c = tt
