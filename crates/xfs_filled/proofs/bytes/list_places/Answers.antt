@@ -1,11 +1,11 @@
 use Rattle.std.proofs.Common.{ℕ, ◌*◌, ◌++◌, List, [], ◌∷◌, arith, sym, ap, ◌∙◌, ◌≡◌, append-nil, take_all}
-use Rattle.xfs_filled.specs.Wanting.{blocks_of_chunks}
-use borrow.Author.Count.{falls}
 use Rattle.std.proofs.lemmas.Result.{IfOk-from_err}
 use Rattle.std.specs.List.{range_with_len}
 use Rattle.std.proofs.lemmas.List.FromFn.{map-range_with_len_more}
-use Rattle.xfs_empty.specs.Bytes.{header_places}
+use borrow.Author.Count.{falls}
 use Rattle.xfs_render.proofs.ObjectSteps.{flat_more}
+use Rattle.xfs_empty.specs.Bytes.{header_places}
+use Rattle.xfs_filled.specs.Wanting.{blocks_of_chunks}
 use Rattle.xfs_filled.proofs.bytes.list_places.Goals as goal
 
 pub loop-ag-preserved : goal.loop-ag-preserved

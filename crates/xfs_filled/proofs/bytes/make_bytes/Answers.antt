@@ -1,6 +1,6 @@
 use Rattle.std.proofs.Common.{◌≡◌, ◌∙◌, ℕ, Some, length, replicate, ap, arith}
-use Rattle.xfs_filled.specs.Wanting.{filled_places}
 use Rattle.std.proofs.lemmas.Result.{IfOk-from_err}
+use Rattle.xfs_filled.specs.Wanting.{filled_places}
 use Rattle.xfs_filled.proofs.bytes.make_bytes.Goals as goal
 
 pub list_places-requires : goal.list_places-requires

@@ -1,7 +1,7 @@
 use Rattle.std.proofs.Common.{ℕ, ◌/◌, ◌==◌, ◌++◌, ◌∷◌, [], Bool, Vec, Global, get_or, arith, sym, ap, ◌∙◌, ◌≡◌, length, map}
-use borrow.Author.Count.{falls}
 use Rattle.std.proofs.lemmas.Result.{IfOk-from_err}
 use Rattle.std.specs.List.{filter, range_with_len}
+use borrow.Author.Count.{falls}
 use Rattle.xfs_geom.specs.Volumes.{volume_of}
 use Rattle.xfs_geom.specs.declared.records.InoRec.{InoRec}
 use Rattle.xfs_filled.specs.Chunks.{chunk_record}

@@ -1,6 +1,6 @@
 use Rattle.std.proofs.Common.{◌++◌, [], ◌∷◌, ap, ◌∙◌, map, take_all, arith}
-use borrow.Author.Count.{falls}
 use Rattle.std.proofs.lemmas.Result.{IfOk-from_err}
+use borrow.Author.Count.{falls}
 use Rattle.xfs_geom.specs.declared.records.Run.{Run}
 use Rattle.xfs_render.proofs.ObjectSteps.{map_more}
 use Rattle.xfs_filled.specs.Chunks.{chunk_at}

@@ -1,10 +1,10 @@
 use Rattle.std.proofs.Common.{◌<◌, length, arith, sym, subst, ap, ◌∙◌, []}
-use Rattle.xfs_render.proofs.ObjectSteps.{flat_more}
-use borrow.Author.Count.{falls}
 use Rattle.std.proofs.lemmas.Result.{IfOk-from_err}
 use Rattle.std.specs.List.{All, flat_map}
 use Rattle.std.proofs.lemmas.List.{take_all}
+use borrow.Author.Count.{falls}
 use Rattle.xfs_geom.specs.Volumes.{volume_of}
+use Rattle.xfs_render.proofs.ObjectSteps.{flat_more}
 use Rattle.xfs_filled.specs.Contents.{blocks_of_place}
 use Rattle.xfs_filled.proofs.Asking.{order_inside}
 use Rattle.xfs_filled.proofs.Blocks.{blocks_are}

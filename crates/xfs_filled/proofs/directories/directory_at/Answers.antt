@@ -1,16 +1,16 @@
 use Rattle.std.proofs.Common.{◌≡◌, length, get_or, arith, sym, subst, ap, ◌∙◌, ◌+◌, ◌*◌, ◌<◌, ℕ, zero, suc, Bool, false, if◌then◌else◌, Some, None, List}
-use Rattle.xfs_filled.specs.Sites.{AreChunksPlaced}
-use Rattle.xfs_filled.specs.Directories.{made_directory}
-use Rattle.xfs_geom.specs.declared.geometry.Geometry.{Geometry}
 use Rattle.std.proofs.lemmas.Bool.{true≢false}
 use Rattle.std.proofs.lemmas.Result.{IfOk-from_err}
 use Rattle.std.specs.List.{All}
 use Rattle.std.proofs.lemmas.List.{get_or_default}
 use Rattle.std.proofs.lemmas.List.FromFn.{length-map-range_with_len}
+use Rattle.xfs_geom.specs.declared.geometry.Geometry.{Geometry}
+use Rattle.xfs_geom.specs.Volumes.{volume_of}
 use Rattle.xfs_dirdata.specs.Written.{IsWritableEntry}
 use Rattle.xfs_dirindex.specs.Data.{have_no_dots}
-use Rattle.xfs_geom.specs.Volumes.{volume_of}
 use Rattle.xfs_proto.specs.declared.protofile.ProtoNode.{ProtoNode}
+use Rattle.xfs_filled.specs.Sites.{AreChunksPlaced}
+use Rattle.xfs_filled.specs.Directories.{made_directory}
 use Rattle.xfs_filled.specs.Entries.{entries_at, parent_of_place}
 use Rattle.xfs_filled.specs.FileTrees.{is_directory_kind, no_proto_node, AreProtoNodes, is_directory_node, node_at}
 use Rattle.xfs_filled.specs.Numbers.{number_of}

@@ -1,7 +1,7 @@
 use Rattle.std.proofs.Common.{◌≡◌, ◌+◌, ◌++◌, [], ◌∷◌, length, get_or, arith, sym, ap, ◌∙◌, subst, length-set}
-use borrow.Author.Count.{falls}
 use Rattle.std.proofs.lemmas.Result.{IfOk-from_err}
 use Rattle.std.proofs.lemmas.List.{get_or_default, with_items_is}
+use borrow.Author.Count.{falls}
 use Rattle.xfs_geom.specs.Volumes.{volume_of}
 use Rattle.xfs_proto.specs.declared.protofile.ProtoNode.{ProtoNode}
 use Rattle.xfs_filled.specs.FileTrees.{no_proto_node}

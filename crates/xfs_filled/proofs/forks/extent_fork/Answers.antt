@@ -1,13 +1,13 @@
 use Rattle.std.proofs.Common.{◌≡◌, ℕ, List, length, refl, arith, ap, ◌∙◌, ◌+◌, ◌<◌, [], ◌∷◌, ◌++◌, false, take, get_or}
-use Rattle.xfs_render.proofs.ObjectSteps.{flat_more}
 use Rattle.std.proofs.lemmas.List.Sums.{sum_by-append, sum_by-cons}
-use borrow.Author.Count.{falls}
 use Rattle.std.proofs.lemmas.Result.{IfOk-from_err}
 use Rattle.std.specs.List.{flat_map, sum_by}
 use Rattle.std.proofs.lemmas.List.{take_all, take_more}
-use Rattle.xfs_inodebuild.specs.declared.forks.ForkWanted.{ForkWanted}
+use borrow.Author.Count.{falls}
 use Rattle.xfs_word.specs.Extent.{packed}
 use Rattle.xfs_word.specs.declared.extents.Extent.{Extent}
+use Rattle.xfs_inodebuild.specs.declared.forks.ForkWanted.{ForkWanted}
+use Rattle.xfs_render.proofs.ObjectSteps.{flat_more}
 use Rattle.xfs_filled.specs.Forks.{extent_fork}
 use Rattle.xfs_filled.proofs.forks.extent_fork.Goals as goal
 

@@ -1,9 +1,9 @@
 use Rattle.std.proofs.Common.{[], ◌∙◌, ap, sym, subst, take_all, arith}
-use Rattle.xfs_word.specs.Extent.{IsPackable}
 use Rattle.std.proofs.lemmas.List.Elements.{All-nil}
 use Rattle.std.specs.List.{All, flat_map}
-use borrow.Author.Count.{falls}
 use Rattle.std.proofs.lemmas.Result.{IfOk-from_err}
+use borrow.Author.Count.{falls}
+use Rattle.xfs_word.specs.Extent.{IsPackable}
 use Rattle.xfs_geom.specs.Volumes.{volume_of}
 use Rattle.xfs_geom.specs.declared.records.Run.{Run}
 use Rattle.xfs_render.proofs.ObjectSteps.{flat_more}

@@ -1,11 +1,11 @@
 use Rattle.std.proofs.Common.{ℕ, ◌++◌, [], ◌∷◌, zero, suc, arith, sym, subst, ap, ◌∙◌, ◌≡◌, ◌+◌, ◌-◌, ◌*◌, ◌/◌, ◌≤◌, ◌<◌, append-nil, map}
-use borrow.Author.Count.{falls}
 use Rattle.std.proofs.lemmas.Result.{IfOk-from_err}
 use Rattle.std.specs.List.{All, range_with_len}
 use Rattle.std.proofs.lemmas.List.Elements.{All-append}
-use Rattle.xfs_geom.specs.Volumes.{volume_of}
+use borrow.Author.Count.{falls}
 use Rattle.xfs_word.specs.Extent.{IsPackable}
 use Rattle.xfs_word.specs.declared.extents.Extent.{Extent}
+use Rattle.xfs_geom.specs.Volumes.{volume_of}
 use Rattle.xfs_filled.specs.Forks.{extent_of_piece}
 use Rattle.xfs_filled.proofs.Lists.{ranged_next}
 use Rattle.xfs_filled.proofs.forks.push_extents.Goals as goal

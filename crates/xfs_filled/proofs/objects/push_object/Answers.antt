@@ -1,10 +1,10 @@
 use Rattle.std.proofs.Common.{◌∙◌, ◌<◌, length, ap, arith}
-use Rattle.xfs_filled.proofs.Asking.{no_object, one_object}
-use Rattle.xfs_filled.specs.Objects.{object_kind}
-use Rattle.xfs_filled.specs.FileTrees.{no_proto_node}
-use Rattle.xfs_proto.specs.declared.protofile.ProtoNode.{ProtoNode}
 use Rattle.std.proofs.lemmas.Result.{IfOk-from_err}
 use Rattle.std.proofs.lemmas.List.{get_or_default}
+use Rattle.xfs_proto.specs.declared.protofile.ProtoNode.{ProtoNode}
+use Rattle.xfs_filled.specs.Objects.{object_kind}
+use Rattle.xfs_filled.specs.FileTrees.{no_proto_node}
+use Rattle.xfs_filled.proofs.Asking.{no_object, one_object}
 use Rattle.xfs_filled.proofs.objects.push_object.Goals as goal
 
 pub runs_at-requires-clause-site : goal.runs_at-requires-clause-site

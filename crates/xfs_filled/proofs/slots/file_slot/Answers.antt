@@ -1,13 +1,13 @@
 use Rattle.std.proofs.Common.{◌∙◌, ◌≤◌, List, length, sym, subst, ap}
+use Rattle.std.proofs.lemmas.List.{get_or_default}
+use Rattle.std.specs.List.{All}
+use Rattle.std.proofs.lemmas.Result.{IfOk-from_err}
+use Rattle.xfs_word.specs.declared.extents.Extent.{Extent}
+use Rattle.xfs_word.specs.Extent.{IsPackable}
+use Rattle.xfs_proto.specs.declared.protofile.ProtoNode.{ProtoNode}
 use Rattle.xfs_filled.specs.Slots.{made_slot}
 use Rattle.xfs_filled.specs.Forks.{fork_of_kind}
 use Rattle.xfs_filled.specs.FileTrees.{CanHold, no_proto_node}
-use Rattle.xfs_proto.specs.declared.protofile.ProtoNode.{ProtoNode}
-use Rattle.std.proofs.lemmas.List.{get_or_default}
-use Rattle.xfs_word.specs.declared.extents.Extent.{Extent}
-use Rattle.xfs_word.specs.Extent.{IsPackable}
-use Rattle.std.specs.List.{All}
-use Rattle.std.proofs.lemmas.Result.{IfOk-from_err}
 use Rattle.xfs_filled.proofs.slots.file_slot.Goals as goal
 
 pub directory_at-requires-clause-site : goal.directory_at-requires-clause-site

@@ -1,8 +1,8 @@
 use Rattle.std.proofs.Common.{ℕ, ◌++◌, List, [], ◌∷◌, map, arith, sym, ap, ap₂, ◌∙◌}
-use borrow.Author.Count.{falls}
 use Rattle.std.proofs.lemmas.Result.{IfOk-from_err}
 use Rattle.std.specs.List.{range_with_len}
 use Rattle.std.proofs.lemmas.List.FromFn.{map-range_with_len_more}
+use borrow.Author.Count.{falls}
 use Rattle.xfs_geom.specs.Volumes.{volume_of}
 use Rattle.xfs_render.specs.declared.wanted_slots.SlotWanted.{SlotWanted}
 use Rattle.xfs_filled.specs.Slots.{slot_of_index}

@@ -1,8 +1,8 @@
 use Rattle.std.proofs.Common.{◌≡◌, ◌+◌, ◌==◌, length, arith, refl, sym, ◌∙◌}
 use Rattle.std.proofs.lemmas.Bool.{le-ltb, lt-ltb}
-use Rattle.xfs_empty.proofs.Results.{ok_as}
 use Rattle.xfs_geom.specs.Volumes.{volume_of}
 use Rattle.xfs_render.specs.declared.wanted_slots.SlotWanted.{SlotWanted}
+use Rattle.xfs_empty.proofs.Results.{ok_as}
 use Rattle.xfs_filled.specs.Forks.{owned_by}
 use Rattle.xfs_filled.specs.Numbers.{number_of}
 use Rattle.xfs_filled.specs.Slots.{slot_of_index, slot_of_place}

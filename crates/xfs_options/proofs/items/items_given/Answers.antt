@@ -1,11 +1,11 @@
 use Rattle.std.proofs.Common.{◌+◌, ◌++◌, List, length, drop, ap, ◌∙◌, sym, append-nil, arith}
-use Rattle.xfs_options.specs.declared.reading.Given.{Given}
 use Rattle.std.proofs.lemmas.List.{drop_all}
 use Rattle.std.proofs.lemmas.Result.{IfOk-from_err}
 use borrow.Author.Count.{falls}
-use Rattle.xfs_options.proofs.Cutting.{pushed}
+use Rattle.xfs_options.specs.declared.reading.Given.{Given}
 use Rattle.xfs_options.specs.SubOptions.{items_given}
 use Rattle.xfs_options.specs.declared.items.OptionItem.{OptionItem}
+use Rattle.xfs_options.proofs.Cutting.{pushed}
 use Rattle.xfs_options.proofs.items.items_given.Goals as goal
 
 pub loop-option-preserved : goal.loop-option-preserved

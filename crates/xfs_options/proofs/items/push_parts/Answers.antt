@@ -2,9 +2,9 @@ use Rattle.std.proofs.Common.{◌≡◌, ◌+◌, ◌==◌, true, false, [], ◌
 use Rattle.std.proofs.lemmas.List.{drop_all}
 use Rattle.std.proofs.lemmas.Result.{IfOk-from_err}
 use borrow.Author.Count.{falls}
-use Rattle.xfs_options.proofs.Cutting.{ended, grown}
 use Rattle.xfs_options.specs.SubOptions.{items_from}
 use Rattle.xfs_options.specs.declared.items.OptionItem.{OptionItem}
+use Rattle.xfs_options.proofs.Cutting.{ended, grown}
 use Rattle.xfs_options.proofs.items.push_parts.Goals as goal
 use Rattle.xfs_options.proofs.items.push_parts.Goals.{then-byte-eq44+in_ok-push, else-byte-eq44+in_ok-push-2}
 

@@ -1,11 +1,11 @@
 use Rattle.std.proofs.Common.{ℕ, ◌+◌, List, ap, ◌∙◌, [], length, drop, sym, arith}
+use Rattle.std.proofs.lemmas.List.{drop_all}
+use Rattle.std.proofs.lemmas.Result.{IfOk-from_err}
+use borrow.Author.Count.{falls}
 use Rattle.xfs_options.specs.declared.reading.Given.{Given}
 use Rattle.xfs_options.specs.Words.Read.{in_options}
-use Rattle.std.proofs.lemmas.List.{drop_all}
-use borrow.Author.Count.{falls}
-use Rattle.std.proofs.lemmas.Result.{IfOk-from_err}
-use Rattle.xfs_options.proofs.WordSteps.{word_read}
 use Rattle.xfs_options.specs.Words.{after_word, held, Words, after_words}
+use Rattle.xfs_options.proofs.WordSteps.{word_read}
 use Rattle.xfs_options.proofs.reading.read_all.Goals as goal
 
 pub loop-before-preserved : goal.loop-before-preserved

@@ -1,8 +1,8 @@
 use Rattle.std.proofs.Common.{length, arith}
-use Rattle.xfs_place.proofs.Mapped.{mapped_all, mapped_more}
-use Rattle.xfs_place.specs.Claims.{span_of_run}
-use borrow.Author.Count.{falls}
 use Rattle.std.proofs.lemmas.Result.{IfOk-from_err}
+use borrow.Author.Count.{falls}
+use Rattle.xfs_place.specs.Claims.{span_of_run}
+use Rattle.xfs_place.proofs.Mapped.{mapped_all, mapped_more}
 use Rattle.xfs_place.proofs.group_lists.list_spans.Goals as goal
 
 pub loop-run-init : goal.loop-run-init

@@ -1,11 +1,11 @@
 use Rattle.std.proofs.Common.{List, ℕ, arith, subst, sym, ◌≡◌, ◌∙◌, ◌≤◌, ap, lit≤, Some}
-use Rattle.xfs_render.specs.Groups.{due_agf}
-use Rattle.xfs_word.specs.Crc.{little_field_of}
 use Rattle.std.specs.Prelude.{IsTrue}
+use Rattle.xfs_word.specs.Crc.{little_field_of}
 use Rattle.xfs_word.specs.Field.{IsZero}
 use Rattle.xfs_geom.specs.Volumes.{volume_of}
 use Rattle.xfs_heads.specs.FreeSpace.{is_agf_shaped, agf_of}
 use Rattle.xfs_heads.specs.declared.free_space.Agf.{Agf}
+use Rattle.xfs_render.specs.Groups.{due_agf}
 use Rattle.xfs_render.proofs.Headers.{agf_shaped}
 use Rattle.xfs_render.proofs.header_block.put_free_space.Goals as goal
 

@@ -1,11 +1,11 @@
 use Rattle.std.proofs.Common.{List, ℕ, arith, subst, sym, ◌≡◌, ◌∙◌, ◌≤◌, ap, lit≤, Some}
-use Rattle.xfs_render.specs.Groups.{due_agi}
-use Rattle.xfs_word.specs.Crc.{little_field_of}
 use Rattle.std.specs.Prelude.{IsTrue}
+use Rattle.xfs_word.specs.Crc.{little_field_of}
 use Rattle.xfs_word.specs.Field.{IsZero}
 use Rattle.xfs_geom.specs.Volumes.{volume_of}
 use Rattle.xfs_heads.specs.Inodes.{is_agi_shaped, agi_of}
 use Rattle.xfs_heads.specs.declared.inodes.Agi.{Agi}
+use Rattle.xfs_render.specs.Groups.{due_agi}
 use Rattle.xfs_render.proofs.Headers.{agi_shaped}
 use Rattle.xfs_render.proofs.header_block.put_inodes.Goals as goal
 

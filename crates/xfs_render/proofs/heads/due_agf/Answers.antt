@@ -1,8 +1,8 @@
 use Rattle.std.proofs.Common.{arith, length, ap, ◌≡◌, ℕ, ◌+◌, ◌-◌, ◌^◌, ◌<◌, sym, subst, lit<, lit≤, ◌∙◌}
-use Rattle.xfs_render.specs.Groups.{last_entry}
-use Rattle.xfs_render.specs.Counters.{levels}
 use Rattle.xfs_geom.specs.Volumes.{volume_of}
 use Rattle.xfs_geom.specs.Sums.{free_blocks, longest}
+use Rattle.xfs_render.specs.Groups.{last_entry}
+use Rattle.xfs_render.specs.Counters.{levels}
 use Rattle.xfs_render.proofs.Sums.{free_small, space_trees}
 use Rattle.xfs_render.proofs.heads.due_agf.Goals as goal
 

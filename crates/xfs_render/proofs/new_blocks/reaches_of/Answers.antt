@@ -1,10 +1,10 @@
 use Rattle.std.proofs.Common.{◌∙◌, ◌++◌, max, ℕ, List, length, ap, arith}
-use Rattle.xfs_render.proofs.Reaching.{reached_all, reached_more}
+use Rattle.std.proofs.lemmas.Result.{IfOk-from_err}
+use borrow.Author.Count.{falls}
+use Rattle.xfs_geom.specs.declared.records.Run.{Run}
 use Rattle.xfs_render.specs.declared.new_blocks.Reach.{Reach}
 use Rattle.xfs_render.specs.NewBlocks.{reaches_of}
-use Rattle.xfs_geom.specs.declared.records.Run.{Run}
-use borrow.Author.Count.{falls}
-use Rattle.std.proofs.lemmas.Result.{IfOk-from_err}
+use Rattle.xfs_render.proofs.Reaching.{reached_all, reached_more}
 use Rattle.xfs_render.proofs.new_blocks.reaches_of.Goals as goal
 
 pub loop-run-init : goal.loop-run-init

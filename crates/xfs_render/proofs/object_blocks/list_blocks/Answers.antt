@@ -1,10 +1,10 @@
 use Rattle.std.proofs.Common.{◌≡◌, ◌∙◌, ◌++◌, [], List, get_or, drop, refl, ap, sym, append-nil, arith, length}
-use Rattle.xfs_render.specs.Objects.{blocks_of_asks}
-use Rattle.xfs_place.specs.Pool.{IsRunOf}
 use Rattle.std.proofs.lemmas.List.Elements.{All-drop, All-take}
-use borrow.Author.Count.{falls}
 use Rattle.std.proofs.lemmas.Result.{IfOk-from_err}
+use borrow.Author.Count.{falls}
+use Rattle.xfs_place.specs.Pool.{IsRunOf}
 use Rattle.xfs_place.specs.declared.wanted.ObjectKind.TheVariants.{Directory}
+use Rattle.xfs_render.specs.Objects.{blocks_of_asks}
 use Rattle.xfs_render.specs.declared.object_blocks.ObjectAsk.{ObjectAsk}
 use Rattle.xfs_render.specs.declared.object_blocks.ObjectBlock.{ObjectBlock}
 use Rattle.xfs_render.proofs.ObjectSteps.{next_all, next_cut, no_more}

@@ -1,8 +1,8 @@
 use Rattle.std.proofs.Common.{◌≡◌, ◌∙◌, List, ℕ, ap, sym, subst}
-use Rattle.xfs_place.specs.Pool.{IsRunOf}
 use Rattle.std.specs.List.{All}
 use Rattle.std.proofs.lemmas.Result.{IfOk-weaker, IfOk-from_err}
 use Rattle.xfs_geom.specs.declared.records.Run.{Run}
+use Rattle.xfs_place.specs.Pool.{IsRunOf}
 use Rattle.xfs_place.specs.Objects.{ServeAsks, asks_of}
 use Rattle.xfs_place.specs.declared.wanted.RunAsk.{RunAsk}
 use Rattle.xfs_render.specs.Objects.{asks_with_kind, blocks_of_asks}

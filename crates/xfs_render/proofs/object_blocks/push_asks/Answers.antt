@@ -1,6 +1,6 @@
 use Rattle.std.proofs.Common.{map, ◌∙◌, ◌++◌, List, length, take, ap, sym, append-nil, take_all, arith}
-use borrow.Author.Count.{falls}
 use Rattle.std.proofs.lemmas.Result.{IfOk-from_err}
+use borrow.Author.Count.{falls}
 use Rattle.xfs_place.specs.declared.wanted.RunAsk.{RunAsk}
 use Rattle.xfs_render.specs.declared.object_blocks.ObjectAsk.{ObjectAsk}
 use Rattle.xfs_render.proofs.ObjectSteps.{map_more}

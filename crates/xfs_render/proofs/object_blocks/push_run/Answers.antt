@@ -1,6 +1,6 @@
 use Rattle.std.proofs.Common.{ℕ, arith}
-use borrow.Author.Count.{falls}
 use Rattle.std.proofs.lemmas.Result.{IfOk-from_err}
+use borrow.Author.Count.{falls}
 use Rattle.xfs_render.specs.declared.object_blocks.ObjectBlock.{ObjectBlock}
 use Rattle.xfs_render.proofs.ObjectSteps.{range_map_more}
 use Rattle.xfs_render.proofs.object_blocks.push_run.Goals as goal

@@ -1,7 +1,7 @@
 use Rattle.std.proofs.Common.{◌∙◌, ◌++◌, List, length, take, ap, sym, append-nil, take_all, arith}
-use borrow.Author.Count.{falls}
 use Rattle.std.proofs.lemmas.Result.{IfOk-from_err}
 use Rattle.std.specs.List.{flat_map}
+use borrow.Author.Count.{falls}
 use Rattle.xfs_geom.specs.declared.records.Run.{Run}
 use Rattle.xfs_render.specs.Objects.{run_blocks}
 use Rattle.xfs_render.proofs.ObjectSteps.{flat_more}

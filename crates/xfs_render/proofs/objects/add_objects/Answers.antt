@@ -1,10 +1,10 @@
 use Rattle.std.proofs.Common.{◌≡◌, ℕ, [], List, get_or, sym, subst, ◌<◌, length, arith}
-use Rattle.xfs_render.specs.Objects.{AddsObjects}
-use borrow.Author.Count.{falls}
 use Rattle.std.proofs.lemmas.Result.{IfOk-from_err}
 use Rattle.std.proofs.lemmas.List.{get_or_default}
+use borrow.Author.Count.{falls}
 use Rattle.xfs_geom.specs.Volumes.{volume_of}
 use Rattle.xfs_place.specs.declared.wanted.ObjectKind.TheVariants.{Directory}
+use Rattle.xfs_render.specs.Objects.{AddsObjects}
 use Rattle.xfs_render.specs.declared.object_blocks.ObjectBlock.{ObjectBlock}
 use Rattle.xfs_render.proofs.ObjectSteps.{objects_more, objects_none}
 use Rattle.xfs_render.proofs.objects.add_objects.Goals as goal

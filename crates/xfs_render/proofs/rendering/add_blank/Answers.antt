@@ -1,6 +1,6 @@
 use Rattle.std.proofs.Common.{ℕ, ◌^◌, ◌≤◌, ◌<◌, Option, MatchOption, sym, subst}
-use Rattle.xfs_render.specs.Rendering.{AddsBlank}
 use Rattle.std.proofs.lemmas.Result.{IfOk-from_err}
+use Rattle.xfs_render.specs.Rendering.{AddsBlank}
 use Rattle.xfs_render.proofs.rendering.add_blank.Goals as goal
 
 abbrev IsCycle : Option ℕ → Type 0

@@ -1,7 +1,7 @@
 use Rattle.std.proofs.Common.{arith, ap, length, ◌≡◌, ℕ, List, take, take_all, subst}
-use Rattle.xfs_render.specs.Rendering.{AddsPlaces}
-use borrow.Author.Count.{falls}
 use Rattle.std.proofs.lemmas.Result.{IfOk-from_err}
+use borrow.Author.Count.{falls}
+use Rattle.xfs_render.specs.Rendering.{AddsPlaces}
 use Rattle.xfs_render.proofs.RenderSteps.{places_more, places_none}
 use Rattle.xfs_render.proofs.rendering.add_places.Goals as goal
 

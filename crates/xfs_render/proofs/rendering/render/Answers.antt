@@ -1,12 +1,12 @@
 use Rattle.std.proofs.Common.{◌≡◌, ◌∙◌, ◌%◌, ◌≤◌, ◌<◌, ℕ, ap, arith, List, sym, subst}
-use Rattle.xfs_render.specs.NewBlocks.{AreReaches}
-use Rattle.xfs_place.specs.Pool.{IsRunOf}
-use Rattle.xfs_geom.specs.declared.records.Run.{Run}
 use Rattle.std.specs.List.{All}
 use Rattle.std.proofs.lemmas.Result.{IfOk-from_err}
 use Rattle.std.proofs.lemmas.Bool.{eqb-true}
+use Rattle.xfs_geom.specs.declared.records.Run.{Run}
 use Rattle.xfs_geom.specs.Stated.{stated}
 use Rattle.xfs_geom.specs.Volumes.{Volume}
+use Rattle.xfs_place.specs.Pool.{IsRunOf}
+use Rattle.xfs_render.specs.NewBlocks.{AreReaches}
 use Rattle.xfs_render.proofs.rendering.render.Goals as goal
 
 pub render_work-requires-clause-objects : goal.render_work-requires-clause-objects

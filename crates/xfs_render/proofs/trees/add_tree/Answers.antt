@@ -2,9 +2,9 @@ use Rattle.std.proofs.Common.{◌≡◌, ◌∙◌, ◌≤◌, List, ℕ, length
 use Rattle.std.proofs.lemmas.Result.{IfOk-from_err}
 use Rattle.std.proofs.lemmas.List.{take-append-le}
 use Rattle.std.proofs.lemmas.List.Elements.{All-from_get_or}
+use Rattle.xfs_disk.specs.Blocks.{bytes_of_block}
 use Rattle.xfs_treebuild.specs.Exact.{IsExact}
 use Rattle.xfs_treebuild.specs.Packing.{HoldsParts, lsn_of}
-use Rattle.xfs_disk.specs.Blocks.{bytes_of_block}
 use Rattle.xfs_render.proofs.trees.add_tree.Goals as goal
 
 pub returns : goal.returns
