@@ -1,5 +1,5 @@
 -- The address of a block and the block at an address are inverse inside a volume.
-use Rattle.std.proofs.Common.{◌≡◌, ℕ, ◌+◌, ◌*◌, ◌-◌, ◌/◌, ◌%◌, ◌^◌, ◌≤◌, ◌<◌, Bool, true, false, ◌==◌, ◌&&◌, Some, None, ltb, arith, ap}
+use Rattle.std.proofs.Common.{◌≡◌, ℕ, ◌+◌, ◌*◌, ◌-◌, ◌/◌, ◌%◌, ◌^◌, ◌≤◌, ◌<◌, Bool, true, false, ◌==◌, ◌&&◌, Some, None, ltb, Fits, w64, arith, ap}
 use Rattle.std.proofs.Math.Nat.{mod-lt, mul-le-mul_left, div-lt_iff_lt-mul}
 use Rattle.std.proofs.lemmas.Bool.{lt-ltb}
 use Rattle.std.proofs.lemmas.Nat.{div-add-mod', div-mul-add, mod-mul-add}
@@ -15,6 +15,12 @@ address_low b w k d inside small least =
     let most : b / w * k ≤ b / w * (2 * w) = mul-le-mul_left (b / w) (omega arith) in
     let twice : b / w * (2 * w) ≡ 2 * (b / w * w) = omega arith in
     omega arith
+
+pub group_fits : (b w k d : ℕ) → b < d → d ≤ 2 ^ 26 → k < 2 * w → Fits w64 (b / w * k)
+group_fits b w k d inside small least = let low = address_low b w k d inside small least in omega (arith, low)
+
+pub address_fits : (b w k d : ℕ) → b < d → d ≤ 2 ^ 26 → k < 2 * w → Fits w64 (b / w * k + b % w)
+address_fits b w k d inside small least = let low = address_low b w k d inside small least in omega (arith, low)
 
 -- the AG block of a block of the volume is one of its group
 within_group : (d w n b : ℕ) → 1024 ≤ w → b < d → b % w < blocks_of_group d w n (b / w)

@@ -9,3 +9,5 @@ pub mod Leaders
 pub mod Counting
 pub mod Decided
 pub mod Written
+pub mod Chained
+pub mod Exits

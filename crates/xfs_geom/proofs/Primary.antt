@@ -17,6 +17,14 @@ primary sector = record { place = 0; sector = sector }
 some_blocks : (n size : ℕ) → n ≡ size → 0 < size → (n == 0) ≡ false
 some_blocks n size is some = grind (arith, nat_tests)
 
+-- nothing, where the disk has no block
+pub none_elected : (image : Image) (size : ℕ) → length image ≡ size → size ≡ 0 → elected image ≡ Err NoGeometry
+unfolding elected
+none_elected image size len none =
+    ap (λ (n : ℕ). if n == 0 then Err NoGeometry
+    else elected_after (super_fault (super_of (bytes_of_block image 0)) 0 (length image)) (primary (super_of (bytes_of_block image 0))) (votes_below image (length image)))
+    (len ∙ none)
+
 -- what is elected, by the superblock that was read at block 0
 pub by_primary : (image : Image) (size : ℕ) (sector : List ℕ) → length image ≡ size → 0 < size → sector ≡ super_of (bytes_of_block image 0)
     → elected image ≡ elected_after (super_fault sector 0 size) (primary sector) (votes_below image size)

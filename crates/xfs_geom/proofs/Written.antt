@@ -10,6 +10,8 @@ use Rattle.xfs_geom.specs.First.{first_false}
 use Rattle.xfs_geom.specs.Fixed.{FixedWord, fixed_words, fixed_tests, fixed_fault}
 use Rattle.xfs_geom.specs.Stated.{stated, has_root, parts_fault, first_place_fault, shape_tests, is_system_inode}
 use Rattle.xfs_geom.specs.Superblocks.{super_seal, progress_fault, feature_fault, shape_fault, super_fault}
+use Rattle.xfs_geom.specs.Groups.{block_of_address}
+use Rattle.xfs_geom.specs.Volumes.{stated_volume}
 use Rattle.xfs_geom.specs.Writing.{IsAcceptedSector, IsSuperOf, is_beside, is_kept_field}
 use Rattle.xfs_geom.specs.declared.features.Departure.{Departure}
 use Rattle.xfs_geom.specs.declared.reading.SuperFault.{SuperFault}
@@ -111,6 +113,20 @@ same_stated base counts new w = λ i. record {
   inprogress = w.inprogress i;
   logsectlog = w.numbers 193 1 refl i;
   logsectsize = w.numbers 194 2 refl i;
+}
+
+-- it states the volume that the base states
+pub same_volume_stated : (base : List ℕ) (counts : Counts) (new : List ℕ) → IsSuperOf base counts new → stated_volume new ≡ stated_volume base
+same_volume_stated base counts new w = λ i. record {
+  dblocks = w.numbers 8 8 refl i;
+  agblocks = w.numbers 84 4 refl i;
+  agcount = w.numbers 88 4 refl i;
+  agblklog = w.numbers 124 1 refl i;
+  log = block_of_address (w.numbers 84 4 refl i) (w.numbers 124 1 refl i) (w.numbers 48 8 refl i);
+  logblocks = w.numbers 96 4 refl i;
+  rootino = w.numbers 56 8 refl i;
+  logsectlog = w.numbers 193 1 refl i;
+  uuid = w.parts 32 16 refl i;
 }
 
 same_parts : (base : List ℕ) (counts : Counts) (new : List ℕ) → IsSuperOf base counts new → parts_fault (stated new) ≡ parts_fault (stated base)

@@ -53,7 +53,6 @@ impl Geometry {
     }
 
     /// The address of a block.
-    #[tactic(auto, unfolding(crate::specs::Conversions::address_of))]
     pub fn address_of_block(&self, block: u64) -> u64
         requires { block < self.now.dblocks }
         ensures value { result ≡ address_of (volume_of self.now) block }

@@ -44,7 +44,6 @@ pub enum ElectFault {
 /// Elects the superblock that says what the disk's volume is: the primary where it is accepted, or else
 /// the first of the backups for the volume with the most of them. Where a feature of the primary is
 /// refused, no backup is asked. Each block is read once at most.
-#[tactic(auto, unfolding(crate::specs::Election::elected))]
 pub fn elect<D: Disk>(alloc: Global, disk: &mut D) -> Result<Elected, ElectFault>
     ensures due { ForSome (D.holds disk.old) (λ image. IsElection (elected image) result) }
     ensures accepted { IfOk result (λ e. super_fault e.sector e.from (D.size disk.old) ≡ None) }

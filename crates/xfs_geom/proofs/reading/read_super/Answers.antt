@@ -1,5 +1,5 @@
 -- The tests of a superblock, in their order.
-use Rattle.std.proofs.Common.{◌≡◌, Bool, true, false, not, ◌&&◌, ◌==◌, ℕ, List, Option, Some, None, if◌then◌else◌, rules, refl, sym, ap, ◌∙◌}
+use Rattle.std.proofs.Common.{◌≡◌, Bool, true, false, not, ◌&&◌, ◌==◌, Option, Some, None, if◌then◌else◌, rules, sym, ap, ◌∙◌}
 use Rattle.xfs_word.specs.Seal.{is_sealed}
 use Rattle.xfs_word.specs.declared.kinds.Seal.{Seal}
 use Rattle.xfs_geom.specs.Features.{or_else, refused_feature}
@@ -8,7 +8,6 @@ use Rattle.xfs_geom.specs.Stated.{stated, parts_fault, first_place_fault}
 use Rattle.xfs_geom.specs.Superblocks.{super_fault, super_seal, feature_fault, shape_fault, progress_fault}
 use Rattle.xfs_geom.specs.declared.reading.SuperFault.{SuperFault}
 use Rattle.xfs_geom.specs.declared.reading.SuperFault.TheVariants.{NotSealed, Shape}
-use Rattle.xfs_geom.specs.declared.features.Departure.{Departure}
 use Rattle.xfs_geom.specs.declared.stated.Stated.{Stated}
 use Rattle.xfs_geom.proofs.reading.read_super.Goals as goal
 

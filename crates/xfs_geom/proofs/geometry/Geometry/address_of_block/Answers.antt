@@ -1,18 +1,25 @@
-use Rattle.std.proofs.Common.{◌≤◌, ◌*◌, ◌^◌, arith}
-use Rattle.xfs_geom.proofs.Addresses.{address_low, block_back}
-use Rattle.xfs_geom.specs.Conversions.{address_of}
+use Rattle.std.proofs.Common.{ℕ, ◌+◌, ◌*◌, ◌/◌, ◌%◌, ◌∙◌, ap}
+use Rattle.xfs_geom.proofs.Addresses.{address_low, group_fits, address_fits, block_back}
+use Rattle.xfs_geom.specs.Conversions.{address_of, block_at}
 use Rattle.xfs_geom.specs.Volumes.{volume_of}
 use Rattle.xfs_geom.proofs.geometry.Geometry.address_of_block.Goals as goal
 
-pub returns-clause-inverse : goal.returns-clause-inverse
-unfolding address_of
-returns-clause-inverse c =
-    let large : 1024 ≤ c.args.self.now.agblocks = omega arith in
-    let full : c.args.self.now.dblocks ≤ c.args.self.now.agcount * c.args.self.now.agblocks = omega arith in
-    let enough : c.args.self.now.agblocks ≤ 2 ^ c.args.self.now.agblklog = omega arith in
-    rw c.size_of_addresses.ensures.value (block_back (volume_of c.args.self.now) c.args.block large full enough c.requires)
+pub overflow_mul-result : goal.overflow_mul-result
+overflow_mul-result c = group_fits c.args.block c.args.self.now.agblocks _ c.args.self.now.dblocks c.requires c.args.self.now.shape.groups.small c.size_of_addresses.ensures.least
 
-pub returns-clause-low : goal.returns-clause-low
-returns-clause-low c =
-    let small : c.args.self.now.dblocks ≤ 2 ^ 26 = omega arith in
-    address_low c.args.block c.args.self.now.agblocks c.size_of_addresses.result c.args.self.now.dblocks c.requires small c.size_of_addresses.ensures.least
+pub overflow_add-result : goal.overflow_add-result
+overflow_add-result c = address_fits c.args.block c.args.self.now.agblocks _ c.args.self.now.dblocks c.requires c.args.self.now.shape.groups.small c.size_of_addresses.ensures.least
+
+pub returns : goal.returns
+unfolding address_of
+returns c =
+    let block = c.args.block in
+    let w = c.args.self.now.agblocks in
+    let groups = c.args.self.now.shape.groups in
+    let value = ap (λ (k : ℕ). block / w * k + block % w) c.size_of_addresses.ensures.value in
+    record {
+      value = value;
+      inverse = ap (block_at (volume_of c.args.self.now)) value
+          ∙ block_back (volume_of c.args.self.now) block groups.large groups.covered c.args.self.now.shape.addresses.enough c.requires;
+      low = address_low block w c.size_of_addresses.result c.args.self.now.dblocks c.requires groups.small c.size_of_addresses.ensures.least;
+    }
