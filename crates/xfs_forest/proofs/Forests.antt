@@ -1,5 +1,5 @@
 -- Many trees by their numbers: one of them changed, all of them kept, and the blocks of a round.
-use Rattle.std.proofs.Common.{◌≡◌, ℕ, zero, suc, ◌+◌, ◌-◌, ◌==◌, ◌<◌, ◌≤◌, List, [], ◌∷◌, ◌++◌, map, drop, take, length, get_or, set, Option, Result, IfOk, inl, inr, refl, sym, ◌∙◌, ap, subst, arith}
+use Rattle.std.proofs.Common.{◌≡◌, ℕ, zero, suc, ◌+◌, ◌-◌, ◌==◌, ◌<◌, ◌≤◌, Bool, true, false, List, [], ◌∷◌, ◌++◌, map, drop, take, length, get_or, set, Option, Result, IfOk, inl, inr, refl, sym, ◌∙◌, ap, subst, arith}
 use Rattle.std.proofs.lemmas.Bool.{cases_eq, cases_lt}
 use Rattle.std.proofs.lemmas.List.{get_or_default, get_or-map, get_or-set_other, get_or-set_same, get_or_append_left, get_or_push, length-append, length-map, length-set, map-append, take_more}
 use Rattle.std.proofs.lemmas.List.Elements.{All-from_get_or, All-nil}
@@ -52,6 +52,11 @@ both_map Q Q' olds news step both = λ i d inside. step (get_or olds i d) (get_o
 -- the same items, named otherwise
 pub both_as : {A : Type 0} (Q : A → A → Type 0) {old new named_old named_new : A} → old ≡ named_old → new ≡ named_new → Q old new → Q named_old named_new
 both_as Q {old} {new} {named_old} {named_new} same_old same_new held = subst (λ (x : _). Q x named_new) same_old (subst (Q old) same_new held)
+
+-- of a test that is false, all follows where it is true
+pub falsely : {A : Type 0} (b : Bool) → b ≡ false → b ≡ true → A
+falsely true no_more so = cc
+falsely false no_more so = cc
 
 -- a loop over items that changes one at a time: those from i on are as they were, those below are changed
 pub below_more : (P : ℕ → Type 0) (k : ℕ) → ((i : ℕ) → i < k → P i) → P k → (j : ℕ) → j < k + 1 → P j

@@ -1,5 +1,6 @@
+use borrow.Author.Rules.{scaled_Fits}
 use borrow.Author.Count.{falls}
-use Rattle.std.proofs.Common.{refl, sym, subst, arith}
+use Rattle.std.proofs.Common.{refl, sym, subst, arith, length}
 use Rattle.std.proofs.lemmas.List.{get_or_default}
 use Rattle.xfs_forest.specs.Forest.{IsDescended, IsThrough}
 use Rattle.xfs_forest.proofs.Forests.{done_after, rest_after}
@@ -30,3 +31,6 @@ bounds-trees-i g c = omega arith
 
 pub loop-i-smaller : goal.loop-i-smaller
 loop-i-smaller g c = falls _ c.loop-i.i c.loop-i-test.true
+
+pub offset_bounds-trees-i : goal.offset_bounds-trees-i
+offset_bounds-trees-i g c = scaled_Fits c.loop-i.i (length c.args.trees.now) _ (omega arith) c.well_formed.1.0.1

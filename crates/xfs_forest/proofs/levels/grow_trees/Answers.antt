@@ -61,41 +61,47 @@ loop-level-smaller g c =
     let least : c.highest-level-in-loop-level.result ≤ level - 1 = c.highest-level-in-loop-level.ensures.least (level - 1) (λ j d inside. low j d (omega (arith, inside, long, count))) in
     omega (arith, least)
 
-pub returns-in-Err-clause-cause : goal.returns-in-Err-clause-cause
-returns-in-Err-clause-cause g c = forest_caused _ _ _ c.in-Err.fault c.loop-level.invariant.later c.in-Err.ensures.cause
-
-pub returns-in-Err-clause-disk : goal.returns-in-Err-clause-disk
-returns-in-Err-clause-disk g c =
+pub returns-in-Err : goal.returns-in-Err
+returns-in-Err g c =
     let D = g.D.Disk in
-    reads_on D.size D.holds D.write_faults D.writes D.tells_stops D.moment D.may_leave D.left_since c.args.disk.now c.loop-level.disk c.read_level.new.disk c.loop-level.invariant.disk c.in-Err.ensures.disk
-
-pub returns-in-Ok-read_level-clause-done : goal.returns-in-Ok-read_level-clause-done
-returns-in-Ok-read_level-clause-done g c = λ j d inside.
-    let low = each_both (IsLow c.loop-level.level) (IsLow c.loop-level.level) IsOnward (length c.args.plants.now) c.loop-level.trees c.read_level-2.new.trees (omega (arith, c.loop-level.invariant.forest.count))
-    (low_on c.loop-level.level) c.in-Ok-read_level.ensures.onward c.loop-level.invariant.low in
     record {
-      through = c.in-Ok-read_level.ensures.through j d inside;
-      low = low_up c.loop-level.level 0 (get_or c.read_level-2.new.trees j d) (omega arith) (low j d inside);
+      done = tt;
+      grows = tt;
+      cause = forest_caused _ _ _ c.in-Err.fault c.loop-level.invariant.later c.in-Err.ensures.cause;
+      disk = reads_on D.size D.holds D.write_faults D.writes D.tells_stops D.moment D.may_leave D.left_since c.args.disk.now c.loop-level.disk c.read_level.new.disk c.loop-level.invariant.disk c.in-Err.ensures.disk;
+      reads = let up = c.loop-level.invariant.reads in let more = c.in-Err.ensures.reads in omega (arith, up, more);
     }
 
-pub returns-in-Ok-read_level-clause-grows : goal.returns-in-Ok-read_level-clause-grows
-returns-in-Ok-read_level-clause-grows g c = λ image told growing.
-    c.in-Ok-read_level.ensures.grows image (c.loop-level.invariant.disk.same_contents ∙ told)
-    (subst (λ cells. AreGrowing g.K.Kind.shape (volume_of c.args.g.now) image c.args.plants.now c.loop-level.trees (spots_of cells)) (sym c.loop-level.invariant.none)
-    (c.loop-level.invariant.grows image told growing))
-
-pub returns-in-Ok-read_level-clause-disk : goal.returns-in-Ok-read_level-clause-disk
-returns-in-Ok-read_level-clause-disk g c =
+pub returns-in-Ok-read_level : goal.returns-in-Ok-read_level
+returns-in-Ok-read_level g c =
     let D = g.D.Disk in
-    reads_on D.size D.holds D.write_faults D.writes D.tells_stops D.moment D.may_leave D.left_since c.args.disk.now c.loop-level.disk c.read_level-2.new.disk c.loop-level.invariant.disk c.in-Ok-read_level.ensures.disk
+    record {
+      done = λ j d inside.
+          let low = each_both (IsLow c.loop-level.level) (IsLow c.loop-level.level) IsOnward (length c.args.plants.now) c.loop-level.trees c.read_level-2.new.trees (omega (arith, c.loop-level.invariant.forest.count))
+          (low_on c.loop-level.level) c.in-Ok-read_level.ensures.onward c.loop-level.invariant.low in
+          record {
+            through = c.in-Ok-read_level.ensures.through j d inside;
+            low = low_up c.loop-level.level 0 (get_or c.read_level-2.new.trees j d) (omega arith) (low j d inside);
+          };
+      grows = λ image told growing.
+          c.in-Ok-read_level.ensures.grows image (c.loop-level.invariant.disk.same_contents ∙ told)
+          (subst (λ cells. AreGrowing g.K.Kind.shape (volume_of c.args.g.now) image c.args.plants.now c.loop-level.trees (spots_of cells)) (sym c.loop-level.invariant.none)
+          (c.loop-level.invariant.grows image told growing));
+      cause = let up = c.loop-level.invariant.later in let cause = c.in-Ok-read_level.ensures.cause in omega (arith, up, cause);
+      disk = reads_on D.size D.holds D.write_faults D.writes D.tells_stops D.moment D.may_leave D.left_since c.args.disk.now c.loop-level.disk c.read_level-2.new.disk c.loop-level.invariant.disk c.in-Ok-read_level.ensures.disk;
+      reads = let up = c.loop-level.invariant.reads in let more = c.in-Ok-read_level.ensures.reads in omega (arith, up, more);
+    }
 
-pub returns-clause-cause : goal.returns-clause-cause
-returns-clause-cause g c = forest_caused _ _ _ c.in-Err-read_level.fault c.loop-level.invariant.later c.in-Err-read_level.ensures.cause
-
-pub returns-clause-disk : goal.returns-clause-disk
-returns-clause-disk g c =
+pub returns : goal.returns
+returns g c =
     let D = g.D.Disk in
-    reads_on D.size D.holds D.write_faults D.writes D.tells_stops D.moment D.may_leave D.left_since c.args.disk.now c.loop-level.disk c.read_level-2.new.disk c.loop-level.invariant.disk c.in-Err-read_level.ensures.disk
+    record {
+      done = tt;
+      grows = tt;
+      cause = forest_caused _ _ _ c.in-Err-read_level.fault c.loop-level.invariant.later c.in-Err-read_level.ensures.cause;
+      disk = reads_on D.size D.holds D.write_faults D.writes D.tells_stops D.moment D.may_leave D.left_since c.args.disk.now c.loop-level.disk c.read_level-2.new.disk c.loop-level.invariant.disk c.in-Err-read_level.ensures.disk;
+      reads = let up = c.loop-level.invariant.reads in let more = c.in-Err-read_level.ensures.reads in omega (arith, up, more);
+    }
 
 pub read_level-requires-clause-inside : goal.read_level-requires-clause-inside
 read_level-requires-clause-inside g c = λ κs lives. subst (λ (n : ℕ). c.args.g.now.dblocks ≤ n) (sym c.loop-level.invariant.disk.same_size) c.requires.inside
@@ -108,24 +114,3 @@ read_level-requires-2-clause-inside g c = λ κs lives. subst (λ (n : ℕ). c.a
 
 pub read_level-requires-2-clause-forest : goal.read_level-requires-2-clause-forest
 read_level-requires-2-clause-forest g c = λ κs lives. c.loop-level.invariant.forest
-
-pub returns-in-Err-clause-done : goal.returns-in-Err-clause-done
-returns-in-Err-clause-done g c = tt
-
-pub returns-in-Err-clause-grows : goal.returns-in-Err-clause-grows
-returns-in-Err-clause-grows g c = tt
-
-pub returns-in-Err-clause-reads : goal.returns-in-Err-clause-reads
-returns-in-Err-clause-reads g c = let up = c.loop-level.invariant.reads in let more = c.in-Err.ensures.reads in omega (arith, up, more)
-
-pub returns-clause-done : goal.returns-clause-done
-returns-clause-done g c = tt
-
-pub returns-clause-grows : goal.returns-clause-grows
-returns-clause-grows g c = tt
-
-pub returns-in-Ok-read_level-clause-cause : goal.returns-in-Ok-read_level-clause-cause
-returns-in-Ok-read_level-clause-cause g c = let up = c.loop-level.invariant.later in let cause = c.in-Ok-read_level.ensures.cause in omega (arith, up, cause)
-
-pub returns-in-Ok-read_level-clause-reads : goal.returns-in-Ok-read_level-clause-reads
-returns-in-Ok-read_level-clause-reads g c = let up = c.loop-level.invariant.reads in let more = c.in-Ok-read_level.ensures.reads in omega (arith, up, more)

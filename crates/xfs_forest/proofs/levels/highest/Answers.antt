@@ -1,5 +1,5 @@
 use borrow.Author.Count.{falls}
-use Rattle.std.proofs.Common.{◌<◌, length, get_or, refl, sym, subst, arith, ◌∙◌, rules}
+use Rattle.std.proofs.Common.{◌<◌, length, get_or, refl, sym, subst, arith, ◌∙◌}
 use Rattle.std.proofs.lemmas.List.{get_or_default}
 use Rattle.xfs_forest.specs.Forest.{IsLow}
 use Rattle.xfs_forest.proofs.Forests.{below_more, low_up}
@@ -30,4 +30,4 @@ pub loop-i-smaller : goal.loop-i-smaller
 loop-i-smaller g c = falls _ c.loop-i.i c.loop-i-test.true
 
 pub offset_bounds-trees-i : goal.offset_bounds-trees-i
-offset_bounds-trees-i g c = let inside : c.loop-i.i < length c.args.trees.now = omega (arith, c.loop-i.invariant.ends) in search rules
+offset_bounds-trees-i g c = omega (arith, c.loop-i-test.true, c.loop-i.invariant.ends)

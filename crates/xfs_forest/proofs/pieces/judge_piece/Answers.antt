@@ -1,5 +1,6 @@
+use borrow.Author.Rules.{scaled_Fits}
 use borrow.Author.Count.{falls}
-use Rattle.std.proofs.Common.{refl, sym, subst, arith, ◌<◌, length, rules}
+use Rattle.std.proofs.Common.{refl, sym, subst, arith, length}
 use Rattle.std.proofs.lemmas.List.{get_or_default}
 use Rattle.xfs_geom.specs.Volumes.{volume_of}
 use Rattle.xfs_forest.specs.Forest.{IsInRound, IsJudged}
@@ -33,4 +34,4 @@ pub loop-i-smaller : goal.loop-i-smaller
 loop-i-smaller g c = falls _ c.loop-i.i c.loop-i-test.true
 
 pub offset_bounds-piece-i : goal.offset_bounds-piece-i
-offset_bounds-piece-i g c = let inside : c.loop-i.i < length c.loop-i.piece = omega arith in search rules
+offset_bounds-piece-i g c = scaled_Fits c.loop-i.i (length c.args.piece.now) _ (omega arith) c.well_formed.1.1.1.1.1.1.0.1

@@ -1,5 +1,5 @@
 use borrow.Author.Count.{falls}
-use Rattle.std.proofs.Common.{◌≡◌, [], length, refl, ap, subst, arith, ◌<◌, rules}
+use Rattle.std.proofs.Common.{◌≡◌, [], length, refl, ap, subst, arith}
 use Rattle.xfs_forest.specs.Forest.{reads_as, IsForest, IsGrowing}
 use Rattle.xfs_forest.proofs.Forests.{begun_more, growing_more}
 use Rattle.xfs_forest.proofs.planting.begin_all.Goals as goal
@@ -24,16 +24,17 @@ loop-i-preserved g c =
           (subst (λ plant. IsGrowing (g.K.Kind.shape plant.kind) v image (reads_as g.K.Kind.shape v image plant) c.in_ok-tree.tree []) c.index-plants-i.is (c.in_ok-tree.ensures.grows v image));
     }
 
-pub returns-clause-forest : goal.returns-clause-forest
-returns-clause-forest g c = λ end.
-    let last : c.loop-i.i ≡ length c.args.plants.now = omega (arith, c.loop-i.invariant.ends) in
-    subst (λ n. IsForest n end c.loop-i.trees.items []) last (c.loop-i.invariant.forest end)
-
-pub returns-clause-grows : goal.returns-clause-grows
-returns-clause-grows g c = λ v image t p d inside. c.loop-i.invariant.grows v image t p d (omega (arith, inside, c.loop-i.invariant.ends))
+pub returns : goal.returns
+returns g c =
+    record {
+      forest = λ end.
+          let last : c.loop-i.i ≡ length c.args.plants.now = omega (arith, c.loop-i.invariant.ends) in
+          subst (λ n. IsForest n end c.loop-i.trees.items []) last (c.loop-i.invariant.forest end);
+      grows = λ v image t p d inside. c.loop-i.invariant.grows v image t p d (omega (arith, inside, c.loop-i.invariant.ends));
+    }
 
 pub loop-i-smaller : goal.loop-i-smaller
 loop-i-smaller g c = falls _ c.loop-i.i c.loop-i-test.true
 
 pub offset_bounds-plants-i : goal.offset_bounds-plants-i
-offset_bounds-plants-i g c = let inside : c.loop-i.i < length c.args.plants.now = omega (arith, c.loop-i.invariant.ends) in search rules
+offset_bounds-plants-i g c = omega (arith, c.loop-i-test.true, c.loop-i.invariant.ends)

@@ -1,6 +1,7 @@
+use borrow.Author.Rules.{scaled_Fits}
 use Rattle.std.proofs.lemmas.Result.{IfOk-from_err}
 use borrow.Author.Count.{falls}
-use Rattle.std.proofs.Common.{◌<◌, [], length, map, get_or, sym, subst, ap, arith, ◌∙◌, refl, rules}
+use Rattle.std.proofs.Common.{◌<◌, [], length, map, get_or, sym, subst, ap, arith, ◌∙◌, refl}
 use Rattle.std.proofs.lemmas.List.{take_all}
 use Rattle.xfs_geom.specs.Volumes.{volume_of}
 use Rattle.xfs_forest.specs.Forest.{contents_of, reads_as, IsDone, IsGrowing}
@@ -66,4 +67,4 @@ pub loop-i-smaller : goal.loop-i-smaller
 loop-i-smaller g c = falls _ c.loop-i.i c.loop-i-test.true
 
 pub offset_bounds-trees-i : goal.offset_bounds-trees-i
-offset_bounds-trees-i g c = let inside : c.loop-i.i < length c.loop-i.trees = omega (arith, c.loop-i.invariant.ends, c.requires.count) in search rules
+offset_bounds-trees-i g c = scaled_Fits c.loop-i.i (length c.args.trees.now) _ (omega (arith, c.loop-i-test.true, c.loop-i.invariant.ends, c.requires.count)) c.well_formed.1.1.1.0.1

@@ -1,5 +1,5 @@
 use borrow.Author.Count.{falls}
-use Rattle.std.proofs.Common.{ℕ, ◌≤◌, length, get_or, refl, sym, subst, arith, ◌∙◌}
+use Rattle.std.proofs.Common.{ℕ, ◌≤◌, length, get_or, sym, subst, arith, ◌∙◌}
 use Rattle.xfs_disk.proofs.Reading.{reads_none, reads_on}
 use Rattle.xfs_forest.specs.Forest.{IsKept, IsOnward, IsThrough}
 use Rattle.xfs_forest.proofs.Causes.{forest_caused}
@@ -35,90 +35,60 @@ loop-t-preserved g c =
       reads = let up = before.reads in let more = c.in-Ok.ensures.reads in omega (arith, up, more);
     }
 
-pub returns-in-Err-clause-cause : goal.returns-in-Err-clause-cause
-returns-in-Err-clause-cause g c = forest_caused _ _ _ c.in-Err.fault c.loop-t.invariant.later c.in-Err.ensures.cause
-
-pub returns-in-Err-clause-disk : goal.returns-in-Err-clause-disk
-returns-in-Err-clause-disk g c =
+pub returns-in-Err : goal.returns-in-Err
+returns-in-Err g c =
     let D = g.D.Disk in
-    reads_on D.size D.holds D.write_faults D.writes D.tells_stops D.moment D.may_leave D.left_since c.args.disk.now c.loop-t.disk c.read_row.new.disk c.loop-t.invariant.disk c.in-Err.ensures.disk
+    record {
+      forest = tt;
+      onward = tt;
+      through = tt;
+      none = tt;
+      grows = tt;
+      cause = forest_caused _ _ _ c.in-Err.fault c.loop-t.invariant.later c.in-Err.ensures.cause;
+      disk = reads_on D.size D.holds D.write_faults D.writes D.tells_stops D.moment D.may_leave D.left_since c.args.disk.now c.loop-t.disk c.read_row.new.disk c.loop-t.invariant.disk c.in-Err.ensures.disk;
+      reads = let up = c.loop-t.invariant.reads in let more = c.in-Err.ensures.reads in omega (arith, up, more);
+    }
 
-pub returns-in-Ok-read_round-clause-forest : goal.returns-in-Ok-read_round-clause-forest
-returns-in-Ok-read_round-clause-forest g c =
-    let n = length c.args.plants.now in
-    let end = c.args.g.now.dblocks in
-    forest_kept n end c.loop-t.trees c.read_round.new.trees c.loop-t.cells.items c.read_round.new.cells.items c.read_round.auto.trees
-    c.loop-t.invariant.forest c.in-Ok-read_round.ensures.kept (none_listed n end c.read_round.new.cells.items c.in-Ok-read_round.ensures.none)
-
-pub returns-in-Ok-read_round-clause-onward : goal.returns-in-Ok-read_round-clause-onward
-returns-in-Ok-read_round-clause-onward g c =
-    both_both IsOnward IsKept IsOnward c.args.trees.now c.loop-t.trees c.read_round.new.trees (omega arith) (λ a b d onward kept. onward_on a b d onward (kept_onward b d kept))
-    c.loop-t.invariant.onward c.in-Ok-read_round.ensures.kept
-
-pub returns-in-Ok-read_round-clause-through : goal.returns-in-Ok-read_round-clause-through
-returns-in-Ok-read_round-clause-through g c =
-    each_both IsThrough IsThrough IsKept (length c.args.plants.now) c.loop-t.trees c.read_round.new.trees (omega (arith, c.loop-t.invariant.forest.count))
-    (λ a b kept through. through_on a b (kept_onward a b kept) through) c.in-Ok-read_round.ensures.kept
-    (λ j d inside. c.loop-t.invariant.through j d (omega (arith, inside, c.loop-t.invariant.ends)))
-
-pub returns-in-Ok-read_round-clause-grows : goal.returns-in-Ok-read_round-clause-grows
-returns-in-Ok-read_round-clause-grows g c = λ image told growing.
-    c.in-Ok-read_round.ensures.grows image (c.loop-t.invariant.disk.same_contents ∙ told) (c.loop-t.invariant.grows image told growing)
-
-pub returns-in-Ok-read_round-clause-disk : goal.returns-in-Ok-read_round-clause-disk
-returns-in-Ok-read_round-clause-disk g c =
+pub returns-in-Ok-read_round : goal.returns-in-Ok-read_round
+returns-in-Ok-read_round g c =
     let D = g.D.Disk in
-    reads_on D.size D.holds D.write_faults D.writes D.tells_stops D.moment D.may_leave D.left_since c.args.disk.now c.loop-t.disk c.read_round.new.disk c.loop-t.invariant.disk c.in-Ok-read_round.ensures.disk
+    record {
+      forest = let n = length c.args.plants.now in
+          let end = c.args.g.now.dblocks in
+          forest_kept n end c.loop-t.trees c.read_round.new.trees c.loop-t.cells.items c.read_round.new.cells.items c.read_round.auto.trees
+          c.loop-t.invariant.forest c.in-Ok-read_round.ensures.kept (none_listed n end c.read_round.new.cells.items c.in-Ok-read_round.ensures.none);
+      onward = both_both IsOnward IsKept IsOnward c.args.trees.now c.loop-t.trees c.read_round.new.trees (omega arith) (λ a b d onward kept. onward_on a b d onward (kept_onward b d kept))
+          c.loop-t.invariant.onward c.in-Ok-read_round.ensures.kept;
+      through = each_both IsThrough IsThrough IsKept (length c.args.plants.now) c.loop-t.trees c.read_round.new.trees (omega (arith, c.loop-t.invariant.forest.count))
+          (λ a b kept through. through_on a b (kept_onward a b kept) through) c.in-Ok-read_round.ensures.kept
+          (λ j d inside. c.loop-t.invariant.through j d (omega (arith, inside, c.loop-t.invariant.ends)));
+      none = c.in-Ok-read_round.ensures.none;
+      grows = λ image told growing.
+          c.in-Ok-read_round.ensures.grows image (c.loop-t.invariant.disk.same_contents ∙ told) (c.loop-t.invariant.grows image told growing);
+      cause = let up = c.loop-t.invariant.later in let cause = c.in-Ok-read_round.ensures.cause in omega (arith, up, cause);
+      disk = reads_on D.size D.holds D.write_faults D.writes D.tells_stops D.moment D.may_leave D.left_since c.args.disk.now c.loop-t.disk c.read_round.new.disk c.loop-t.invariant.disk c.in-Ok-read_round.ensures.disk;
+      reads = let up = c.loop-t.invariant.reads in let more = c.in-Ok-read_round.ensures.reads in omega (arith, up, more);
+    }
 
-pub returns-in-Err-read_round-clause-cause : goal.returns-in-Err-read_round-clause-cause
-returns-in-Err-read_round-clause-cause g c = forest_caused _ _ _ c.in-Err-read_round.fault c.loop-t.invariant.later c.in-Err-read_round.ensures.cause
-
-pub returns-in-Err-read_round-clause-disk : goal.returns-in-Err-read_round-clause-disk
-returns-in-Err-read_round-clause-disk g c =
+pub returns-in-Err-read_round : goal.returns-in-Err-read_round
+returns-in-Err-read_round g c =
     let D = g.D.Disk in
-    reads_on D.size D.holds D.write_faults D.writes D.tells_stops D.moment D.may_leave D.left_since c.args.disk.now c.loop-t.disk c.read_round.new.disk c.loop-t.invariant.disk c.in-Err-read_round.ensures.disk
+    record {
+      forest = tt;
+      onward = tt;
+      through = tt;
+      none = tt;
+      grows = tt;
+      cause = forest_caused _ _ _ c.in-Err-read_round.fault c.loop-t.invariant.later c.in-Err-read_round.ensures.cause;
+      disk = reads_on D.size D.holds D.write_faults D.writes D.tells_stops D.moment D.may_leave D.left_since c.args.disk.now c.loop-t.disk c.read_round.new.disk c.loop-t.invariant.disk c.in-Err-read_round.ensures.disk;
+      reads = let up = c.loop-t.invariant.reads in let more = c.in-Err-read_round.ensures.reads in omega (arith, up, more);
+    }
 
 pub read_row-requires-clause-inside : goal.read_row-requires-clause-inside
 read_row-requires-clause-inside g c = λ κs lives. subst (λ (n : ℕ). c.args.g.now.dblocks ≤ n) (sym c.loop-t.invariant.disk.same_size) c.requires.inside
 
 pub read_row-requires-clause-forest : goal.read_row-requires-clause-forest
 read_row-requires-clause-forest g c = λ κs lives. c.loop-t.invariant.forest
-
-pub returns-in-Err-clause-forest : goal.returns-in-Err-clause-forest
-returns-in-Err-clause-forest g c = tt
-
-pub returns-in-Err-clause-onward : goal.returns-in-Err-clause-onward
-returns-in-Err-clause-onward g c = tt
-
-pub returns-in-Err-clause-through : goal.returns-in-Err-clause-through
-returns-in-Err-clause-through g c = tt
-
-pub returns-in-Err-clause-none : goal.returns-in-Err-clause-none
-returns-in-Err-clause-none g c = tt
-
-pub returns-in-Err-clause-grows : goal.returns-in-Err-clause-grows
-returns-in-Err-clause-grows g c = tt
-
-pub returns-in-Err-clause-reads : goal.returns-in-Err-clause-reads
-returns-in-Err-clause-reads g c = let up = c.loop-t.invariant.reads in let more = c.in-Err.ensures.reads in omega (arith, up, more)
-
-pub returns-in-Err-read_round-clause-forest : goal.returns-in-Err-read_round-clause-forest
-returns-in-Err-read_round-clause-forest g c = tt
-
-pub returns-in-Err-read_round-clause-onward : goal.returns-in-Err-read_round-clause-onward
-returns-in-Err-read_round-clause-onward g c = tt
-
-pub returns-in-Err-read_round-clause-through : goal.returns-in-Err-read_round-clause-through
-returns-in-Err-read_round-clause-through g c = tt
-
-pub returns-in-Err-read_round-clause-none : goal.returns-in-Err-read_round-clause-none
-returns-in-Err-read_round-clause-none g c = tt
-
-pub returns-in-Err-read_round-clause-grows : goal.returns-in-Err-read_round-clause-grows
-returns-in-Err-read_round-clause-grows g c = tt
-
-pub returns-in-Err-read_round-clause-reads : goal.returns-in-Err-read_round-clause-reads
-returns-in-Err-read_round-clause-reads g c = let up = c.loop-t.invariant.reads in let more = c.in-Err-read_round.ensures.reads in omega (arith, up, more)
 
 pub read_row-requires-clause-number : goal.read_row-requires-clause-number
 read_row-requires-clause-number g c = λ κs lives. omega (arith, c.loop-t-test.true, c.loop-t.invariant.ends)
@@ -128,15 +98,6 @@ read_round-requires-clause-inside g c = λ κs lives. subst (λ (n : ℕ). c.arg
 
 pub read_round-requires-clause-forest : goal.read_round-requires-clause-forest
 read_round-requires-clause-forest g c = λ κs lives. c.loop-t.invariant.forest
-
-pub returns-in-Ok-read_round-clause-none : goal.returns-in-Ok-read_round-clause-none
-returns-in-Ok-read_round-clause-none g c = c.in-Ok-read_round.ensures.none
-
-pub returns-in-Ok-read_round-clause-cause : goal.returns-in-Ok-read_round-clause-cause
-returns-in-Ok-read_round-clause-cause g c = let up = c.loop-t.invariant.later in let cause = c.in-Ok-read_round.ensures.cause in omega (arith, up, cause)
-
-pub returns-in-Ok-read_round-clause-reads : goal.returns-in-Ok-read_round-clause-reads
-returns-in-Ok-read_round-clause-reads g c = let up = c.loop-t.invariant.reads in let more = c.in-Ok-read_round.ensures.reads in omega (arith, up, more)
 
 pub loop-t-smaller : goal.loop-t-smaller
 loop-t-smaller g c = falls _ c.loop-t.t c.loop-t-test.true

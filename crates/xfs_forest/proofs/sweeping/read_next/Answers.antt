@@ -1,4 +1,5 @@
-use Rattle.std.proofs.Common.{◌<◌, ◌≡◌, length, drop, get_or, subst, arith, rules}
+use borrow.Author.Rules.{scaled_Fits}
+use Rattle.std.proofs.Common.{◌<◌, ◌≡◌, length, drop, get_or, subst, arith}
 use Rattle.std.proofs.lemmas.List.{get_or_default}
 use Rattle.xfs_geom.specs.Volumes.{volume_of}
 use Rattle.xfs_forest.specs.Forest.{room_of, IsKept, IsNext, IsOnward}
@@ -35,19 +36,20 @@ pass_next-requires-clause-broken g c = λ κs lives p d.
 pub pass_next-requires-clause-alone : goal.pass_next-requires-clause-alone
 pass_next-requires-clause-alone g c = λ κs lives broken is. c.in-Ok.ensures.none (c.needs_room-needed.ensures broken is)
 
-pub returns-in-Ok-pass_next-clause-onward : goal.returns-in-Ok-pass_next-clause-onward
-returns-in-Ok-pass_next-clause-onward g c =
-    both_both IsKept IsOnward IsOnward c.args.trees.now c.make_room.new.trees c.pass_next.new.trees (omega arith) (λ a b d kept onward. onward_on a b d (kept_onward a b kept) onward)
-    c.in-Ok.ensures.kept c.in-Ok-pass_next.ensures.onward
-
-pub returns-in-Ok-pass_next-clause-less : goal.returns-in-Ok-pass_next-clause-less
-returns-in-Ok-pass_next-clause-less g c =
-    let same = room_kept c.args.t c.args.trees.now c.make_room.new.trees c.make_room.auto.trees c.in-Ok.ensures.kept in
-    let less = c.in-Ok-pass_next.ensures.less in
-    subst (λ room. room_of (drop c.args.t c.pass_next.new.trees) < room) same less
-
-pub returns-in-Ok-pass_next-clause-grows : goal.returns-in-Ok-pass_next-clause-grows
-returns-in-Ok-pass_next-clause-grows g c = λ image told growing. c.in-Ok-pass_next.ensures.grows image (c.in-Ok.ensures.grows image told growing)
+pub returns-in-Ok-pass_next : goal.returns-in-Ok-pass_next
+returns-in-Ok-pass_next g c =
+    record {
+      forest = c.in-Ok-pass_next.ensures.forest;
+      onward = both_both IsKept IsOnward IsOnward c.args.trees.now c.make_room.new.trees c.pass_next.new.trees (omega arith) (λ a b d kept onward. onward_on a b d (kept_onward a b kept) onward)
+          c.in-Ok.ensures.kept c.in-Ok-pass_next.ensures.onward;
+      less = let same = room_kept c.args.t c.args.trees.now c.make_room.new.trees c.make_room.auto.trees c.in-Ok.ensures.kept in
+          let less = c.in-Ok-pass_next.ensures.less in
+          subst (λ room. room_of (drop c.args.t c.pass_next.new.trees) < room) same less;
+      grows = λ image told growing. c.in-Ok-pass_next.ensures.grows image (c.in-Ok.ensures.grows image told growing);
+      cause = c.in-Ok.ensures.cause;
+      disk = c.in-Ok.ensures.disk;
+      reads = c.in-Ok.ensures.reads;
+    }
 
 pub make_room-requires-clause-inside : goal.make_room-requires-clause-inside
 make_room-requires-clause-inside g c = λ κs lives. c.requires.inside
@@ -58,59 +60,29 @@ make_room-requires-clause-forest g c = λ κs lives. c.requires.forest
 pub pass_next-requires-clause-forest : goal.pass_next-requires-clause-forest
 pass_next-requires-clause-forest g c = λ κs lives. c.in-Ok.ensures.forest
 
-pub returns-in-Ok-pass_next-clause-forest : goal.returns-in-Ok-pass_next-clause-forest
-returns-in-Ok-pass_next-clause-forest g c = c.in-Ok-pass_next.ensures.forest
+pub returns-in-Err-pass_next : goal.returns-in-Err-pass_next
+returns-in-Err-pass_next g c =
+    record {
+      forest = tt;
+      onward = tt;
+      less = tt;
+      grows = tt;
+      cause = c.in-Ok.ensures.cause;
+      disk = c.in-Ok.ensures.disk;
+      reads = c.in-Ok.ensures.reads;
+    }
 
-pub returns-in-Ok-pass_next-clause-cause : goal.returns-in-Ok-pass_next-clause-cause
-returns-in-Ok-pass_next-clause-cause g c = c.in-Ok.ensures.cause
-
-pub returns-in-Ok-pass_next-clause-disk : goal.returns-in-Ok-pass_next-clause-disk
-returns-in-Ok-pass_next-clause-disk g c = c.in-Ok.ensures.disk
-
-pub returns-in-Ok-pass_next-clause-reads : goal.returns-in-Ok-pass_next-clause-reads
-returns-in-Ok-pass_next-clause-reads g c = c.in-Ok.ensures.reads
-
-pub returns-in-Err-pass_next-clause-forest : goal.returns-in-Err-pass_next-clause-forest
-returns-in-Err-pass_next-clause-forest g c = tt
-
-pub returns-in-Err-pass_next-clause-onward : goal.returns-in-Err-pass_next-clause-onward
-returns-in-Err-pass_next-clause-onward g c = tt
-
-pub returns-in-Err-pass_next-clause-less : goal.returns-in-Err-pass_next-clause-less
-returns-in-Err-pass_next-clause-less g c = tt
-
-pub returns-in-Err-pass_next-clause-grows : goal.returns-in-Err-pass_next-clause-grows
-returns-in-Err-pass_next-clause-grows g c = tt
-
-pub returns-in-Err-pass_next-clause-cause : goal.returns-in-Err-pass_next-clause-cause
-returns-in-Err-pass_next-clause-cause g c = c.in-Ok.ensures.cause
-
-pub returns-in-Err-pass_next-clause-disk : goal.returns-in-Err-pass_next-clause-disk
-returns-in-Err-pass_next-clause-disk g c = c.in-Ok.ensures.disk
-
-pub returns-in-Err-pass_next-clause-reads : goal.returns-in-Err-pass_next-clause-reads
-returns-in-Err-pass_next-clause-reads g c = c.in-Ok.ensures.reads
-
-pub returns-in-Err-clause-forest : goal.returns-in-Err-clause-forest
-returns-in-Err-clause-forest g c = tt
-
-pub returns-in-Err-clause-onward : goal.returns-in-Err-clause-onward
-returns-in-Err-clause-onward g c = tt
-
-pub returns-in-Err-clause-less : goal.returns-in-Err-clause-less
-returns-in-Err-clause-less g c = tt
-
-pub returns-in-Err-clause-grows : goal.returns-in-Err-clause-grows
-returns-in-Err-clause-grows g c = tt
-
-pub returns-in-Err-clause-cause : goal.returns-in-Err-clause-cause
-returns-in-Err-clause-cause g c = c.in-Err.ensures.cause
-
-pub returns-in-Err-clause-disk : goal.returns-in-Err-clause-disk
-returns-in-Err-clause-disk g c = c.in-Err.ensures.disk
-
-pub returns-in-Err-clause-reads : goal.returns-in-Err-clause-reads
-returns-in-Err-clause-reads g c = c.in-Err.ensures.reads
+pub returns-in-Err : goal.returns-in-Err
+returns-in-Err g c =
+    record {
+      forest = tt;
+      onward = tt;
+      less = tt;
+      grows = tt;
+      cause = c.in-Err.ensures.cause;
+      disk = c.in-Err.ensures.disk;
+      reads = c.in-Err.ensures.reads;
+    }
 
 pub bounds-plants-t : goal.bounds-plants-t
 bounds-plants-t g c = c.requires.number
@@ -125,7 +97,7 @@ pub pass_next-requires-clause-number : goal.pass_next-requires-clause-number
 pass_next-requires-clause-number g c = λ κs lives. c.requires.number
 
 pub offset_bounds-plants-t : goal.offset_bounds-plants-t
-offset_bounds-plants-t g c = let inside : c.args.t < length c.args.plants.now = c.requires.number in search rules
+offset_bounds-plants-t g c = omega (arith, c.requires.number)
 
 pub offset_bounds-trees-t : goal.offset_bounds-trees-t
-offset_bounds-trees-t g c = let inside : c.args.t < length c.args.trees.now = omega (arith, c.requires.number, c.requires.forest.count) in search rules
+offset_bounds-trees-t g c = scaled_Fits c.args.t (length c.args.trees.now) _ (omega (arith, c.requires.number, c.requires.forest.count)) c.well_formed.1.1.1.1.1.1.0.1

@@ -1,4 +1,5 @@
-use Rattle.std.proofs.Common.{ℕ, ◌≤◌, ◌<◌, length, get_or, sym, subst, arith, ◌∙◌, rules}
+use borrow.Author.Rules.{scaled_Fits}
+use Rattle.std.proofs.Common.{ℕ, ◌≤◌, ◌<◌, length, get_or, sym, subst, arith, ◌∙◌}
 use Rattle.std.proofs.lemmas.List.{get_or_default}
 use Rattle.xfs_disk.proofs.Reading.{reads_none, reads_on}
 use Rattle.xfs_forest.specs.Forest.{IsOnward, IsThrough}
@@ -38,59 +39,40 @@ taking-preserved g c =
       reads = let up = before.reads in let more = c.in-Ok.ensures.reads in omega (arith, up, more);
     }
 
-pub returns-in-Err-clause-cause : goal.returns-in-Err-clause-cause
-returns-in-Err-clause-cause g c = forest_caused _ _ _ c.in-Err.fault c.taking.invariant.later c.in-Err.ensures.cause
-
-pub returns-in-Err-clause-disk : goal.returns-in-Err-clause-disk
-returns-in-Err-clause-disk g c =
+pub returns-in-Err : goal.returns-in-Err
+returns-in-Err g c =
     let D = g.D.Disk in
-    reads_on D.size D.holds D.write_faults D.writes D.tells_stops D.moment D.may_leave D.left_since c.args.disk.now c.taking.disk c.read_next.new.disk c.taking.invariant.disk c.in-Err.ensures.disk
+    record {
+      forest = tt;
+      onward = tt;
+      through = tt;
+      grows = tt;
+      cause = forest_caused _ _ _ c.in-Err.fault c.taking.invariant.later c.in-Err.ensures.cause;
+      disk = reads_on D.size D.holds D.write_faults D.writes D.tells_stops D.moment D.may_leave D.left_since c.args.disk.now c.taking.disk c.read_next.new.disk c.taking.invariant.disk c.in-Err.ensures.disk;
+      reads = let up = c.taking.invariant.reads in let more = c.in-Err.ensures.reads in omega (arith, up, more);
+    }
 
-pub returns-clause-through : goal.returns-clause-through
-returns-clause-through g c = λ d.
-    let t = c.args.t in
-    let trees = c.taking.trees in
-    let inside : t < length trees = omega (arith, c.requires.number, c.taking.invariant.forest.count) in
-    subst IsThrough (get_or_default trees t c.index-trees-t.result d inside) (c.has_more.ensures.through c.taking-test.false)
+pub returns : goal.returns
+returns g c =
+    record {
+      forest = c.taking.invariant.forest;
+      onward = c.taking.invariant.onward;
+      through = λ d.
+          let t = c.args.t in
+          let trees = c.taking.trees in
+          let inside : t < length trees = omega (arith, c.requires.number, c.taking.invariant.forest.count) in
+          subst IsThrough (get_or_default trees t c.index-trees-t.result d inside) (c.has_more.ensures.through c.taking-test.false);
+      grows = c.taking.invariant.grows;
+      cause = c.taking.invariant.later;
+      disk = c.taking.invariant.disk;
+      reads = c.taking.invariant.reads;
+    }
 
 pub read_next-requires-clause-inside : goal.read_next-requires-clause-inside
 read_next-requires-clause-inside g c = λ κs lives. subst (λ (n : ℕ). c.args.g.now.dblocks ≤ n) (sym c.taking.invariant.disk.same_size) c.requires.inside
 
 pub read_next-requires-clause-forest : goal.read_next-requires-clause-forest
 read_next-requires-clause-forest g c = λ κs lives. c.taking.invariant.forest
-
-pub returns-in-Err-clause-forest : goal.returns-in-Err-clause-forest
-returns-in-Err-clause-forest g c = tt
-
-pub returns-in-Err-clause-onward : goal.returns-in-Err-clause-onward
-returns-in-Err-clause-onward g c = tt
-
-pub returns-in-Err-clause-through : goal.returns-in-Err-clause-through
-returns-in-Err-clause-through g c = tt
-
-pub returns-in-Err-clause-grows : goal.returns-in-Err-clause-grows
-returns-in-Err-clause-grows g c = tt
-
-pub returns-in-Err-clause-reads : goal.returns-in-Err-clause-reads
-returns-in-Err-clause-reads g c = let up = c.taking.invariant.reads in let more = c.in-Err.ensures.reads in omega (arith, up, more)
-
-pub returns-clause-forest : goal.returns-clause-forest
-returns-clause-forest g c = c.taking.invariant.forest
-
-pub returns-clause-onward : goal.returns-clause-onward
-returns-clause-onward g c = c.taking.invariant.onward
-
-pub returns-clause-grows : goal.returns-clause-grows
-returns-clause-grows g c = c.taking.invariant.grows
-
-pub returns-clause-cause : goal.returns-clause-cause
-returns-clause-cause g c = c.taking.invariant.later
-
-pub returns-clause-disk : goal.returns-clause-disk
-returns-clause-disk g c = c.taking.invariant.disk
-
-pub returns-clause-reads : goal.returns-clause-reads
-returns-clause-reads g c = c.taking.invariant.reads
 
 pub bounds-trees-t : goal.bounds-trees-t
 bounds-trees-t g c = omega (arith, c.requires.number, c.taking.invariant.forest.count)
@@ -102,4 +84,4 @@ pub taking-smaller : goal.taking-smaller
 taking-smaller g c = c.in-Ok.ensures.less
 
 pub offset_bounds-trees-t : goal.offset_bounds-trees-t
-offset_bounds-trees-t g c = let inside : c.args.t < length c.taking.trees = omega (arith, c.requires.number, c.taking.invariant.forest.count) in search rules
+offset_bounds-trees-t g c = scaled_Fits c.args.t (length c.args.trees.now) _ (omega (arith, c.requires.number, c.requires.forest.count)) c.well_formed.1.1.1.1.1.1.0.1

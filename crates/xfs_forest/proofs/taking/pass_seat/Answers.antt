@@ -10,23 +10,18 @@ returns-then-is_some-clause-grows g c = λ s v image whole split place alone gro
     (record { level = old.level; row = old.row; at = old.at + 1; side = old.side; met = old.met; before = old.before; next = old.next; records = old.records; fault = old.fault })
     (of_tree c.args.number (spots_of c.args.cells.now.items)) (sym c.is_some.ensures ∙ c.if-is_some.true) refl growing
 
-pub returns-in_ok-take_seat-in-None-clause-passed : goal.returns-in_ok-take_seat-in-None-clause-passed
-returns-in_ok-take_seat-in-None-clause-passed g c =
-    taken_passed c.args.number c.args.seat c.args.tree.now c.take_seat.new.tree c.args.cells.now.items c.take_seat.new.cells.items c.in_ok-take_seat-in-None.ensures
-
-pub returns-in_ok-take_seat-in-None-clause-others : goal.returns-in_ok-take_seat-in-None-clause-others
-returns-in_ok-take_seat-in-None-clause-others g c =
-    taken_others c.args.number c.args.seat c.args.tree.now c.take_seat.new.tree c.args.cells.now.items c.take_seat.new.cells.items c.in_ok-take_seat-in-None.ensures
-
-pub returns-in_ok-take_seat-in-None-clause-listed : goal.returns-in_ok-take_seat-in-None-clause-listed
-returns-in_ok-take_seat-in-None-clause-listed g c = λ n end low inside listed.
-    taken_listed c.args.number c.args.seat c.args.tree.now c.take_seat.new.tree c.args.cells.now.items c.take_seat.new.cells.items c.in_ok-take_seat-in-None.ensures
-    n end low (inside c.in-None.is) listed
-
-pub returns-in_ok-take_seat-in-None-clause-grows : goal.returns-in_ok-take_seat-in-None-clause-grows
-returns-in_ok-take_seat-in-None-clause-grows g c = λ s v image whole split place alone growing.
-    growing_taken s v image whole c.args.number c.args.seat c.args.tree.now c.take_seat.new.tree c.args.cells.now.items c.take_seat.new.cells.items c.in_ok-take_seat-in-None.ensures
-    split (place ∙ c.in-None.is) growing
+pub returns-in_ok-take_seat-in-None : goal.returns-in_ok-take_seat-in-None
+returns-in_ok-take_seat-in-None g c =
+    record {
+      passed = taken_passed c.args.number c.args.seat c.args.tree.now c.take_seat.new.tree c.args.cells.now.items c.take_seat.new.cells.items c.in_ok-take_seat-in-None.ensures;
+      others = taken_others c.args.number c.args.seat c.args.tree.now c.take_seat.new.tree c.args.cells.now.items c.take_seat.new.cells.items c.in_ok-take_seat-in-None.ensures;
+      listed = λ n end low inside listed.
+          taken_listed c.args.number c.args.seat c.args.tree.now c.take_seat.new.tree c.args.cells.now.items c.take_seat.new.cells.items c.in_ok-take_seat-in-None.ensures
+          n end low (inside c.in-None.is) listed;
+      grows = λ s v image whole split place alone growing.
+          growing_taken s v image whole c.args.number c.args.seat c.args.tree.now c.take_seat.new.tree c.args.cells.now.items c.take_seat.new.cells.items c.in_ok-take_seat-in-None.ensures
+          split (place ∙ c.in-None.is) growing;
+    }
 
 pub returns-in-Some-clause-grows : goal.returns-in-Some-clause-grows
 returns-in-Some-clause-grows g c = λ s v image whole split place alone growing.
