@@ -1,5 +1,5 @@
 -- The first bytes of a block.
-use Rattle.std.proofs.Common.{◌≡◌, ℕ, List, take, refl}
+use Rattle.std.proofs.Common.{◌≡◌, ℕ, List, take}
 use Rattle.std.proofs.lemmas.List.{get_or-take}
 use Rattle.xfs_word.specs.Field.{field_of}
 use Rattle.xfs_word.proofs.Written.{big_from-same}

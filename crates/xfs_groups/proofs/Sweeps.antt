@@ -1,5 +1,5 @@
 -- A sweep over records of owners that ascend.
-use Rattle.std.proofs.Common.{◌≡◌, ℕ, zero, suc, Bool, true, false, ◌+◌, ◌≤◌, ◌<◌, ◌&&◌, ◌||◌, ◌==◌, nat_le, nat_lt, List, [], ◌∷◌, drop, drop-cons, length, get_or, add-one, refl, sym, ap, ◌∙◌, subst, arith}
+use Rattle.std.proofs.Common.{◌≡◌, ℕ, zero, suc, Bool, true, false, ◌+◌, ◌≤◌, ◌<◌, ◌&&◌, ◌||◌, ◌==◌, nat_le, nat_lt, List, [], ◌∷◌, drop, drop-cons, length, get_or, add-one, ◌*◌, ◌/◌, ◌^◌, Fits, w32, w64, refl, sym, ap, ◌∙◌, subst, arith}
 use Rattle.std.proofs.lemmas.List.{drop_all}
 use Rattle.std.proofs.lemmas.Bool.{leb-false, leb-true}
 use Rattle.std.proofs.lemmas.Bool.Decides.{nat_tests}
@@ -88,3 +88,28 @@ given_at block i rs d inside apart behind =
 
 pub none_at : (block i : ℕ) (rs : List RmapRec) → length rs ≤ i → is_given_block (drop i rs) block ≡ false
 none_at block i rs past = ap (λ (xs : List RmapRec). is_given_block xs block) (drop_all i rs past)
+
+pub none_low : (n : ℕ) → 0 ≤ n
+none_low n = omega arith
+
+-- the clusters of a group of n blocks, by their places
+pub quarter_on : (i : ℕ) → 4 * i ≤ 4 * (i + 1)
+quarter_on i = omega arith
+
+pub quarter_place : (i n : ℕ) → i < n / 4 → n < 2 ^ 32 → 4 * i + 4 < 2 ^ 32
+quarter_place i n inside small = omega (arith, inside, small)
+
+pub quarter_short : (i n : ℕ) → i < n / 4 → n < 2 ^ 32 → Fits w32 (4 * i)
+quarter_short i n inside small = omega (arith, inside, small)
+
+pub quarter_long : (i n : ℕ) → i < n / 4 → n < 2 ^ 32 → Fits w64 (4 * i)
+quarter_long i n inside small = omega (arith, inside, small)
+
+pub quarter_fits : (i n : ℕ) → i < n / 4 → n < 2 ^ 32 → Fits w64 i
+quarter_fits i n inside small = omega (arith, inside, small)
+
+pub quarter_low : (start end i n front : ℕ) → start < end → end ≤ 2 ^ 26 → i < n / 4 → front + n ≤ end → start + 4 * i < 2 ^ 32
+quarter_low start end i n front inside small under short = omega (arith, inside, small, under, short)
+
+pub quarter_sum : (start end i n front : ℕ) → start < end → end ≤ 2 ^ 26 → i < n / 4 → front + n ≤ end → Fits w64 (start + 4 * i)
+quarter_sum start end i n front inside small under short = omega (arith, inside, small, under, short)

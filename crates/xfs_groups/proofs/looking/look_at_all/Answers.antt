@@ -1,4 +1,3 @@
-use Rattle.std.proofs.Common.{arith}
 use Rattle.xfs_groups.proofs.looking.look_at_all.Goals as goal
 
 pub returns-in-Ok : goal.returns-in-Ok

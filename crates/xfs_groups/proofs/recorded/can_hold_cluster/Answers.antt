@@ -1,4 +1,4 @@
-use Rattle.std.proofs.Common.{Bool, not, ◌+◌, ◌||◌, sym, ap, ap₂, ◌∙◌, arith}
+use Rattle.std.proofs.Common.{Bool, not, ◌||◌, sym, ap, ap₂, ◌∙◌, arith}
 use Rattle.xfs_geom.specs.Volumes.{volume_of}
 use Rattle.xfs_disk.proofs.Reading.{reads_none}
 use Rattle.xfs_image.specs.Candidates.{has_whole_seal}
