@@ -1,5 +1,5 @@
 -- Candidates, one entry after the other.
-use Rattle.std.proofs.Common.{◌≡◌, ℕ, ◌+◌, ◌<◌, ◌==◌, ◌&&◌, ◌||◌, Bool, true, false, not, cond, List, [], ◌∷◌, ◌++◌, map, length, drop, suc, refl, sym, ◌∙◌, ap, subst, arith, eq-eqb, add-one, append_assoc, drop-cons, slice_index_or}
+use Rattle.std.proofs.Common.{◌≡◌, ℕ, ◌+◌, ◌<◌, ◌≤◌, ◌==◌, ◌&&◌, ◌||◌, Bool, true, false, not, cond, List, [], ◌∷◌, ◌++◌, map, length, drop, suc, refl, sym, ◌∙◌, ap, subst, arith, eq-eqb, add-one, append_assoc, drop-cons, slice_index_or}
 use denote.Bor.{Bor}
 use Rattle.std.specs.List.{list_any, filter}
 use Rattle.std.specs.Str.{bytes_eq}
@@ -11,7 +11,7 @@ use Rattle.std.specs.Cmp.{both_tied, unsigned_ties}
 use Rattle.std.proofs.lemmas.Map.Text.{is_eq-slice_cmp}
 use Rattle.std.proofs.lemmas.Bool.Decides.{nat_tests}
 use Rattle.std.proofs.lemmas.List.Folds.{list_any-append}
-use Rattle.std.proofs.lemmas.List.{get_or_default}
+use Rattle.std.proofs.lemmas.List.{append-nil, drop_all, get_or_default}
 use Rattle.xfs_dirdata.specs.declared.records.EntryRec.{EntryRec}
 use Rattle.xfs_links.specs.declared.records.NodeRec.{NodeRec}
 use Rattle.xfs_links.specs.declared.candidates.Candidate.{Candidate}
@@ -46,6 +46,12 @@ firsts_met met es e t = ap (λ r. cond r (firsts met es) (e ∷ firsts (met ++ e
 -- it is
 pub firsts_new : (met es : List EntryRec) (e : EntryRec) → list_any (λ f. same_name f e) met ≡ false → firsts met (e ∷ es) ≡ e ∷ firsts (met ++ e ∷ []) es
 firsts_new met es e t = ap (λ r. cond r (firsts met es) (e ∷ firsts (met ++ e ∷ []) es)) t
+
+-- no entry is left
+pub leads_end : (files : List NodeRec) (root i : ℕ) (entries xs due : List EntryRec) → length entries ≤ i
+    → xs ++ firsts xs (filter (passes files root) (drop i entries)) ≡ due → xs ≡ due
+leads_end files root i entries xs due past leads =
+    sym (append-nil xs) ∙ ap (λ (es : List EntryRec). xs ++ firsts xs (filter (passes files root) es)) (sym (drop_all i entries past)) ∙ leads
 
 pub map_last : (entries : List EntryRec) (cs : List Candidate) (c : Candidate) → map (candidate_entry entries) (cs ++ c ∷ []) ≡ map (candidate_entry entries) cs ++ candidate_entry entries c ∷ []
 map_last entries [] c = refl

@@ -1,3 +1,4 @@
+use Rattle.std.proofs.lemmas.Result.{IfOk-from_err}
 use Rattle.std.proofs.Common.{◌<◌, sym, ◌∙◌, ap, subst, List, [], length}
 use Rattle.std.specs.List.{All}
 use Rattle.std.specs.List.Sorted.{IsNonDecreasingBy}
@@ -59,3 +60,18 @@ returns c = decided c.args.files.now c.args.entries.now c.args.root c.unwrap-pla
     (c.in_ok-staying.ensures.staying ∙ ap (λ (r : List Candidate). staying_at c.args.files.now c.deref-3.result.now [] r) c.deref-4.ensures.value
     ∙ ap (λ r. staying_at c.args.files.now r [] c.in_ok-candidates.candidates.items) c.deref-3.ensures.value)
     (c.in_ok-kept.ensures.cleared ∙ ap (λ r. cleared_at c.args.files.now c.args.entries.now c.args.root r c.in_ok-staying.staying.items) c.deref-5.ensures.value)
+
+pub returns-in_err-candidates : goal.returns-in_err-candidates
+returns-in_err-candidates c = IfOk-from_err c.from_residual.result _ c.from_residual.ensures.0
+
+pub returns-in_err-turn : goal.returns-in_err-turn
+returns-in_err-turn c = IfOk-from_err c.from_residual-in_err-turn.result _ c.from_residual-in_err-turn.ensures.0
+
+pub returns-in_err-parents : goal.returns-in_err-parents
+returns-in_err-parents c = IfOk-from_err c.from_residual-in_err-parents.result _ c.from_residual-in_err-parents.ensures.0
+
+pub returns-in_err-staying : goal.returns-in_err-staying
+returns-in_err-staying c = IfOk-from_err c.from_residual-in_err-staying.result _ c.from_residual-in_err-staying.ensures.0
+
+pub returns-in_err-kept : goal.returns-in_err-kept
+returns-in_err-kept c = IfOk-from_err c.from_residual-in_err-kept.result _ c.from_residual-in_err-kept.ensures.0

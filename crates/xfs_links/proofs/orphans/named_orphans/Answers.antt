@@ -1,3 +1,4 @@
+use Rattle.std.proofs.lemmas.Result.{IfOk-from_err}
 use Rattle.std.proofs.Common.{ℕ, List, true, false, ap}
 use Rattle.xfs_links.specs.Entries.{node_number}
 use Rattle.xfs_links.specs.Places.{named_orphan_at, orphan_at, taken_at}
@@ -18,3 +19,15 @@ loop-place-preserved c = mapped_next (named_orphan_at c.args.files.now c.args.en
     (c.in_ok-named.ensures.named c.loop-place.place c.loop-place-test.true) c.is_orphan.ensures c.if-not-is_orphan.false)
     c.loop-place.invariant c.in_ok-push.ensures.items
     (ap (λ (r : List ℕ). (node_number c.args.files.now c.loop-place.place, r)) (c.in_ok-name.ensures (taken_at c.args.entries.now c.args.kept.now c.args.lost) c.in_ok-taken.ensures))
+
+pub returns-in_err-named : goal.returns-in_err-named
+returns-in_err-named c = IfOk-from_err c.from_residual.result _ c.from_residual.ensures.0
+
+pub returns-in_err-taken : goal.returns-in_err-taken
+returns-in_err-taken c = IfOk-from_err c.from_residual-in_err-taken.result _ c.from_residual-in_err-taken.ensures.0
+
+pub returns-in_err-name : goal.returns-in_err-name
+returns-in_err-name c = IfOk-from_err c.from_residual-in_err-name.result _ c.from_residual-in_err-name.ensures.0
+
+pub returns-in_err-push : goal.returns-in_err-push
+returns-in_err-push c = IfOk-from_err c.from_residual-in_err-push.result _ c.from_residual-in_err-push.ensures.0

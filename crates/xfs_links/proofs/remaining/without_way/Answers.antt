@@ -1,4 +1,4 @@
-use Rattle.std.proofs.Common.{◌≡◌, Bool, true, false, not, List, get_or, take, sym, ◌∙◌, ap}
+use Rattle.std.proofs.Common.{not, List, sym, ◌∙◌, ap}
 use Rattle.std.specs.List.{filter}
 use Rattle.std.proofs.lemmas.List.{take_all}
 use Rattle.xfs_links.specs.declared.candidates.Candidate.{Candidate}

@@ -1,3 +1,4 @@
+use Rattle.std.proofs.lemmas.Result.{IfOk-from_err}
 use Rattle.std.proofs.Common.{ℕ, ◌<◌, [], List, length, sym, ◌∙◌, ap, subst}
 use Rattle.std.specs.List.{All}
 use Rattle.xfs_collections.specs.Lists.{AreOnce, list_at}
@@ -44,3 +45,12 @@ returns c = record {
       ∙ c.loop-start.invariant.leads
       ∙ ap (λ (n : ℕ). walk (named_at c.args.files.now c.args.candidates.now) n c.args.root [] (starts_at c.args.files.now c.args.candidates.now c.args.root)) c.count_directories-steps.ensures;
 }
+
+pub returns-in_err-starts : goal.returns-in_err-starts
+returns-in_err-starts c = record { turn = IfOk-from_err c.from_residual.result _ c.from_residual.ensures.0 }
+
+pub returns-in_err-weave : goal.returns-in_err-weave
+returns-in_err-weave c = record { turn = IfOk-from_err c.from_residual-in_err-weave.result _ c.from_residual-in_err-weave.ensures.0 }
+
+pub returns-in_err-begin : goal.returns-in_err-begin
+returns-in_err-begin c = record { turn = IfOk-from_err c.from_residual-in_err-begin.result _ c.from_residual-in_err-begin.ensures.0 }

@@ -1,3 +1,4 @@
+use Rattle.std.proofs.lemmas.Result.{IfOk-from_err}
 use Rattle.std.proofs.Common.{ℕ, ◌<◌, ◌+◌, ◌-◌, refl, sym, ◌∙◌, subst, ap, ap₂, arith, List, length}
 use Rattle.std.specs.List.{All}
 use Rattle.xfs_collections.specs.Lists.{list_at}
@@ -80,3 +81,9 @@ returns-after-loop-step-clause-turn c =
     ∙ c.loop-step.invariant.leads
     ∙ begin_is c.args.files.now c.args.weave.now (named_at c.args.files.now c.args.candidates.now) c.args.steps c.args.root c.args.start (length c.as_slice-from.result.now)
     c.args.turn.now.items c.attach.new.turn.items c.as_slice-from.result.now c.start_parent.result c.requires.steady c.requires.start c.as_slice-from.ensures.value refl c.start_parent.ensures c.in_ok-attach.ensures.turn
+
+pub returns-in_err-attach : goal.returns-in_err-attach
+returns-in_err-attach c = record { turn = IfOk-from_err c.from_residual.result _ c.from_residual.ensures.0; steady = IfOk-from_err c.from_residual.result _ c.from_residual.ensures.0; pending = IfOk-from_err c.from_residual.result _ c.from_residual.ensures.0 }
+
+pub returns-in_err-take_directory : goal.returns-in_err-take_directory
+returns-in_err-take_directory c = record { turn = IfOk-from_err c.from_residual-in_err-take_directory.result _ c.from_residual-in_err-take_directory.ensures.0; steady = IfOk-from_err c.from_residual-in_err-take_directory.result _ c.from_residual-in_err-take_directory.ensures.0; pending = IfOk-from_err c.from_residual-in_err-take_directory.result _ c.from_residual-in_err-take_directory.ensures.0 }

@@ -1,4 +1,4 @@
-use Rattle.std.proofs.Common.{List, Bool, true, false, length, get_or, take, sym, ◌∙◌, ap}
+use Rattle.std.proofs.Common.{List, Bool, true, false, length, get_or, take, ◌∙◌, ap}
 use Rattle.std.proofs.Math.ListN.{length-set}
 use Rattle.std.proofs.lemmas.List.{get_or-replicate, length-replicate, take_all, take_more}
 use Rattle.xfs_links.specs.declared.candidates.Candidate.{Candidate}

@@ -1,3 +1,4 @@
+use Rattle.std.proofs.lemmas.Result.{IfOk-from_err}
 use Rattle.std.proofs.Common.{◌-◌, None, length, ◌∙◌}
 use Rattle.std.proofs.Math.ListN.{length-set}
 use Rattle.xfs_links.specs.declared.walk.Attached.{Attached}
@@ -15,3 +16,6 @@ loop-left-preserved c =
       parents = parents_next c.loop-left.parents.items c.args.count c.args.turn.now left c.loop-left.left none c.loop-left.invariant.size step.0 c.loop-left.invariant.low
           (c.requires.inside left none step.1) c.loop-left.invariant.parents;
     }
+
+pub returns-in_err-parents : goal.returns-in_err-parents
+returns-in_err-parents c = record { size = IfOk-from_err c.from_residual.result _ c.from_residual.ensures.0; parents = IfOk-from_err c.from_residual.result _ c.from_residual.ensures.0 }

@@ -1,3 +1,4 @@
+use Rattle.std.proofs.lemmas.Result.{IfOk-from_err}
 use Rattle.std.proofs.Common.{ℕ, ◌++◌, ◌∷◌, [], List, sym, ◌∙◌, ap, arith, get_or, take}
 use Rattle.std.proofs.lemmas.List.{take_more}
 use Rattle.xfs_collections.specs.Lists.{Woven, without}
@@ -14,3 +15,6 @@ loop-start-preserved c = record {
       ∙ ap (λ (r : List ℕ). r ++ get_or c.args.starts.now c.loop-start.start-index 0 ∷ []) (without_absent (get_or c.args.starts.now c.loop-start.start-index 0) (take c.loop-start.start-index c.args.starts.now) (once_before c.args.starts.now c.loop-start.start-index c.requires.once c.loop-start-test.true))
       ∙ sym (take_more c.args.starts.now c.loop-start.start-index 0 c.loop-start-test.true);
 }
+
+pub returns-in_err-weave : goal.returns-in_err-weave
+returns-in_err-weave c = record { nodes = IfOk-from_err c.from_residual.result _ c.from_residual.ensures.0; lists = IfOk-from_err c.from_residual.result _ c.from_residual.ensures.0; pending = IfOk-from_err c.from_residual.result _ c.from_residual.ensures.0 }

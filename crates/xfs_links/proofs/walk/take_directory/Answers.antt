@@ -1,3 +1,4 @@
+use Rattle.std.proofs.lemmas.Result.{IfOk-from_err}
 use Rattle.std.proofs.Common.{◌≡◌, ◌+◌, refl, sym, ◌∙◌, subst, ap, List, drop, Some, slice_index_or}
 use Rattle.xfs_collections.specs.Lists.{list_at}
 use Rattle.xfs_links.specs.declared.walk.Attached.{Attached}
@@ -31,3 +32,6 @@ loop-candidate-preserved-then-not-is_pending c = record {
       c.loop-candidate.invariant.leads;
   pending = c.loop-candidate.invariant.pending;
 }
+
+pub returns-in_err-attach : goal.returns-in_err-attach
+returns-in_err-attach c = record { turn = IfOk-from_err c.from_residual.result _ c.from_residual.ensures.0; steady = IfOk-from_err c.from_residual.result _ c.from_residual.ensures.0; pending = IfOk-from_err c.from_residual.result _ c.from_residual.ensures.0 }
