@@ -1,5 +1,5 @@
 -- Faults of the parts as answers of the whole.
-use Rattle.std.proofs.Common.{◌≡◌, ℕ, ◌≤◌, Option, Result, Ok, Err, sym, subst, arith}
+use Rattle.std.proofs.Common.{◌≡◌, ℕ, ◌≤◌, Option, Result, Ok, Err, sym, subst}
 use Rattle.xfs_journal.specs.Answers.{IsJournalCause}
 use Rattle.xfs_journal.specs.declared.faults.JournalFault.{JournalFault}
 use Rattle.xfs_journal.specs.declared.faults.JournalFault.TheVariants as logs

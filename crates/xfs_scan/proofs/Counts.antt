@@ -2,6 +2,9 @@
 use Rattle.std.proofs.Common.{◌≡◌, ℕ, ◌+◌, ◌-◌, ◌^◌, ◌<◌, ◌≤◌, min, arith}
 use Rattle.xfs_disk.specs.Faults.{Rose}
 
+pub still : (a : ℕ) → a ≤ a
+still a = omega arith
+
 pub later : (a b c : ℕ) → a ≤ b → b ≤ c → a ≤ c
 later a b c first then = omega (arith, first, then)
 

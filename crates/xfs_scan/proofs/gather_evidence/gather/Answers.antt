@@ -1,8 +1,7 @@
-use Rattle.std.proofs.Common.{◌*◌, ◌≤◌, ℕ, List, Option, length, sym, ap, subst, ◌∙◌}
+use Rattle.std.proofs.Common.{◌≤◌, ℕ, Option, sym, subst, ◌∙◌}
 use Rattle.xfs_geom.specs.Volumes.{volume_of}
 use Rattle.xfs_disk.specs.Blocks.{Image}
 use Rattle.xfs_disk.proofs.Reading.{reads_on}
-use Rattle.xfs_volume.specs.declared.clusters.ClusterRec.{ClusterRec}
 use Rattle.xfs_image.specs.Candidates.{ClustersAscend}
 use Rattle.xfs_groups.specs.Answers.{EndBelow, IsGroupsCause}
 use Rattle.std.specs.Option.{ForSome}

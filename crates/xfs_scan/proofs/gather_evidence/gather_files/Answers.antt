@@ -1,4 +1,4 @@
-use Rattle.std.proofs.Common.{ℕ, ◌≤◌, List, Option, sym, subst, ◌∙◌}
+use Rattle.std.proofs.Common.{ℕ, ◌≤◌, Option, sym, subst, ◌∙◌}
 use Rattle.std.specs.Option.{ForSome}
 use Rattle.std.specs.Prelude.{IfOk}
 use Rattle.xfs_geom.specs.Volumes.{volume_of}
@@ -7,8 +7,7 @@ use Rattle.xfs_slots.specs.Gathered.{held_in}
 use Rattle.xfs_disk.proofs.Reading.{reads_on}
 use Rattle.xfs_slots.proofs.Kept.{facts_of_candidates}
 use Rattle.xfs_groups.specs.Answers.{EndBelow}
-use Rattle.xfs_scan.specs.Answers.{HasRefused}
-use Rattle.xfs_scan.specs.Evidence.{AreSeen, IsEvidence}
+use Rattle.xfs_scan.specs.Evidence.{IsEvidence}
 use Rattle.xfs_scan.specs.Refused.{refused_late}
 use Rattle.xfs_scan.specs.declared.evidence.Evidence.{Evidence}
 use Rattle.xfs_scan.proofs.Answered.{part_caused, part_refuses, scan_caused}
