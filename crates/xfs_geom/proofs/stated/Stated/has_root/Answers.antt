@@ -62,28 +62,26 @@ returns-then-block-blocks_of_group-clause-low c = λ yes_. absurd (differ yes_)
 pub returns-then-block-blocks_of_group-clause-kept : goal.returns-then-block-blocks_of_group-clause-kept
 returns-then-block-blocks_of_group-clause-kept c = λ yes_. absurd (differ yes_)
 
-pub returns-clause-low : goal.returns-clause-low
-returns-clause-low c = λ yes_.
-    let v = c.args.self.now in
-    low_inode v.rootino v.agblklog v.agcount c.requires.addresses.short c.requires.groups.few (subst (λ (n : ℕ). n < v.agcount) c.group_of-group.ensures c.if-group-self.false)
-
-pub returns-clause-kept : goal.returns-clause-kept
-returns-clause-kept c = λ clear.
-    let v = c.args.self.now in
+pub returns : goal.returns
+returns c =
     record {
-      slot = c.if-self-gt29.false;
-      group = subst (λ (n : ℕ). n < v.agcount) c.group_of-group.ensures c.if-group-self.false;
-      behind = subst (λ (n : ℕ). 8 ≤ n) c.ag_block_of-block.ensures.value c.if-block-lt8.false;
-      inside = moved _ _ _ _ c.ag_block_of-block.ensures.value (c.blocks_of_group.ensures ∙ ap (λ (n : ℕ). blocks_of_group v.dblocks v.agblocks v.agcount n) c.group_of-group.ensures) c.if-block-blocks_of_group.false;
-      apart = sym (c.is_clear_of_log.ensures ∙ ap (λ (n : ℕ). is_off_log n (stated_log v) v.logblocks) c.block_of_address.ensures.value) ∙ clear;
+      value = let v = c.args.self.now in
+          last_of_five _ _ _ _ _ c.is_clear_of_log.result
+          (le-leb _ 29 c.if-self-gt29.false)
+          (lt-ltb _ v.agcount (subst (λ (n : ℕ). n < v.agcount) c.group_of-group.ensures c.if-group-self.false))
+          (le-leb 8 _ (subst (λ (n : ℕ). 8 ≤ n) c.ag_block_of-block.ensures.value c.if-block-lt8.false))
+          (le-leb _ _ (moved _ _ _ _ c.ag_block_of-block.ensures.value (c.blocks_of_group.ensures ∙ ap (λ (n : ℕ). blocks_of_group v.dblocks v.agblocks v.agcount n) c.group_of-group.ensures) c.if-block-blocks_of_group.false))
+          (c.is_clear_of_log.ensures ∙ ap (λ (n : ℕ). is_off_log n (stated_log v) v.logblocks) c.block_of_address.ensures.value);
+      low = λ yes_.
+          let v = c.args.self.now in
+          low_inode v.rootino v.agblklog v.agcount c.requires.addresses.short c.requires.groups.few (subst (λ (n : ℕ). n < v.agcount) c.group_of-group.ensures c.if-group-self.false);
+      kept = λ clear.
+          let v = c.args.self.now in
+          record {
+            slot = c.if-self-gt29.false;
+            group = subst (λ (n : ℕ). n < v.agcount) c.group_of-group.ensures c.if-group-self.false;
+            behind = subst (λ (n : ℕ). 8 ≤ n) c.ag_block_of-block.ensures.value c.if-block-lt8.false;
+            inside = moved _ _ _ _ c.ag_block_of-block.ensures.value (c.blocks_of_group.ensures ∙ ap (λ (n : ℕ). blocks_of_group v.dblocks v.agblocks v.agcount n) c.group_of-group.ensures) c.if-block-blocks_of_group.false;
+            apart = sym (c.is_clear_of_log.ensures ∙ ap (λ (n : ℕ). is_off_log n (stated_log v) v.logblocks) c.block_of_address.ensures.value) ∙ clear;
+          };
     }
-
-pub returns-clause-value : goal.returns-clause-value
-returns-clause-value c =
-    let v = c.args.self.now in
-    last_of_five _ _ _ _ _ c.is_clear_of_log.result
-    (le-leb _ 29 c.if-self-gt29.false)
-    (lt-ltb _ v.agcount (subst (λ (n : ℕ). n < v.agcount) c.group_of-group.ensures c.if-group-self.false))
-    (le-leb 8 _ (subst (λ (n : ℕ). 8 ≤ n) c.ag_block_of-block.ensures.value c.if-block-lt8.false))
-    (le-leb _ _ (moved _ _ _ _ c.ag_block_of-block.ensures.value (c.blocks_of_group.ensures ∙ ap (λ (n : ℕ). blocks_of_group v.dblocks v.agblocks v.agcount n) c.group_of-group.ensures) c.if-block-blocks_of_group.false))
-    (c.is_clear_of_log.ensures ∙ ap (λ (n : ℕ). is_off_log n (stated_log v) v.logblocks) c.block_of_address.ensures.value)

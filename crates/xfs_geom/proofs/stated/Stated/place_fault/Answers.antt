@@ -22,82 +22,74 @@ returns-then-self-blocks-clause-inside c = tt
 pub returns-then-self-blocks-clause-kept : goal.returns-then-self-blocks-clause-kept
 returns-then-self-blocks-clause-kept c = tt
 
-pub returns-then-not-has_root-clause-inside : goal.returns-then-not-has_root-clause-inside
-returns-then-not-has_root-clause-inside c = tt
+pub returns-then-not-has_root : goal.returns-then-not-has_root
+unfolding first_place_fault
+returns-then-not-has_root c =
+    record {
+      first = let v = c.args.self.now in
+          let place = c.args.place in
+          let blocks = c.args.blocks in
+          let stands : (place % v.agblocks == 0 && nat_lt place v.dblocks) ≡ true =
+          λ i. eq-eqb (place % v.agblocks) 0 c.if-place-self-ne0.false i && lt-ltb place v.dblocks c.if-place-self.false i in
+          let fits : nat_le v.dblocks blocks ≡ true = le-leb v.dblocks blocks c.if-self-blocks.false in
+          let rooted : has_root v ≡ false = sym c.has_root.ensures.value ∙ c.if-not-has_root.true in
+          sym (λ i. first_of (stands i) (fits i) (rooted i) (is_system_inode place (v.rootino + 1) v.rbmino) (is_system_inode place (v.rootino + 2) v.rsumino));
+      inside = tt;
+      kept = tt;
+    }
 
-pub returns-then-not-has_root-clause-kept : goal.returns-then-not-has_root-clause-kept
-returns-then-not-has_root-clause-kept c = tt
+pub returns-then-not-is_system_inode : goal.returns-then-not-is_system_inode
+unfolding first_place_fault
+returns-then-not-is_system_inode c =
+    record {
+      first = let v = c.args.self.now in
+          let place = c.args.place in
+          let blocks = c.args.blocks in
+          let stands : (place % v.agblocks == 0 && nat_lt place v.dblocks) ≡ true =
+          λ i. eq-eqb (place % v.agblocks) 0 c.if-place-self-ne0.false i && lt-ltb place v.dblocks c.if-place-self.false i in
+          let fits : nat_le v.dblocks blocks ≡ true = le-leb v.dblocks blocks c.if-self-blocks.false in
+          let rooted : has_root v ≡ true = sym c.has_root.ensures.value ∙ c.if-not-has_root.false in
+          let second : is_system_inode place (v.rootino + 1) v.rbmino ≡ false = sym c.is_system_inode.ensures ∙ c.if-not-is_system_inode.true in
+          sym (λ i. first_of (stands i) (fits i) (rooted i) (second i) (is_system_inode place (v.rootino + 2) v.rsumino));
+      inside = tt;
+      kept = tt;
+    }
 
-pub returns-then-not-is_system_inode-clause-inside : goal.returns-then-not-is_system_inode-clause-inside
-returns-then-not-is_system_inode-clause-inside c = tt
+pub returns-then-not-is_system_inode-2 : goal.returns-then-not-is_system_inode-2
+unfolding first_place_fault
+returns-then-not-is_system_inode-2 c =
+    record {
+      first = let v = c.args.self.now in
+          let place = c.args.place in
+          let blocks = c.args.blocks in
+          let stands : (place % v.agblocks == 0 && nat_lt place v.dblocks) ≡ true =
+          λ i. eq-eqb (place % v.agblocks) 0 c.if-place-self-ne0.false i && lt-ltb place v.dblocks c.if-place-self.false i in
+          let fits : nat_le v.dblocks blocks ≡ true = le-leb v.dblocks blocks c.if-self-blocks.false in
+          let rooted : has_root v ≡ true = sym c.has_root.ensures.value ∙ c.if-not-has_root.false in
+          let second : is_system_inode place (v.rootino + 1) v.rbmino ≡ true = sym c.is_system_inode.ensures ∙ c.if-not-is_system_inode.false in
+          let third : is_system_inode place (v.rootino + 2) v.rsumino ≡ false = sym c.is_system_inode-2.ensures ∙ c.if-not-is_system_inode-2.true in
+          sym (λ i. first_of (stands i) (fits i) (rooted i) (second i) (third i));
+      inside = tt;
+      kept = tt;
+    }
 
-pub returns-then-not-is_system_inode-clause-kept : goal.returns-then-not-is_system_inode-clause-kept
-returns-then-not-is_system_inode-clause-kept c = tt
-
-pub returns-then-not-is_system_inode-2-clause-inside : goal.returns-then-not-is_system_inode-2-clause-inside
-returns-then-not-is_system_inode-2-clause-inside c = tt
-
-pub returns-then-not-is_system_inode-2-clause-kept : goal.returns-then-not-is_system_inode-2-clause-kept
-returns-then-not-is_system_inode-2-clause-kept c = tt
-
-pub returns-clause-inside : goal.returns-clause-inside
-returns-clause-inside c = c.if-self-blocks.false
-
-pub returns-clause-kept : goal.returns-clause-kept
-returns-clause-kept c = c.has_root.ensures.kept c.if-not-has_root.false
+pub returns : goal.returns
+unfolding first_place_fault
+returns c =
+    record {
+      first = let v = c.args.self.now in
+          let place = c.args.place in
+          let blocks = c.args.blocks in
+          let stands : (place % v.agblocks == 0 && nat_lt place v.dblocks) ≡ true =
+          λ i. eq-eqb (place % v.agblocks) 0 c.if-place-self-ne0.false i && lt-ltb place v.dblocks c.if-place-self.false i in
+          let fits : nat_le v.dblocks blocks ≡ true = le-leb v.dblocks blocks c.if-self-blocks.false in
+          let rooted : has_root v ≡ true = sym c.has_root.ensures.value ∙ c.if-not-has_root.false in
+          let second : is_system_inode place (v.rootino + 1) v.rbmino ≡ true = sym c.is_system_inode.ensures ∙ c.if-not-is_system_inode.false in
+          let third : is_system_inode place (v.rootino + 2) v.rsumino ≡ true = sym c.is_system_inode-2.ensures ∙ c.if-not-is_system_inode-2.false in
+          sym (λ i. first_of (stands i) (fits i) (rooted i) (second i) (third i));
+      inside = c.if-self-blocks.false;
+      kept = c.has_root.ensures.kept c.if-not-has_root.false;
+    }
 
 pub has_root-requires : goal.has_root-requires
 has_root-requires c = c.requires
-
-pub returns-then-not-has_root-clause-first : goal.returns-then-not-has_root-clause-first
-unfolding first_place_fault
-returns-then-not-has_root-clause-first c =
-    let v = c.args.self.now in
-    let place = c.args.place in
-    let blocks = c.args.blocks in
-    let stands : (place % v.agblocks == 0 && nat_lt place v.dblocks) ≡ true =
-    λ i. eq-eqb (place % v.agblocks) 0 c.if-place-self-ne0.false i && lt-ltb place v.dblocks c.if-place-self.false i in
-    let fits : nat_le v.dblocks blocks ≡ true = le-leb v.dblocks blocks c.if-self-blocks.false in
-    let rooted : has_root v ≡ false = sym c.has_root.ensures.value ∙ c.if-not-has_root.true in
-    sym (λ i. first_of (stands i) (fits i) (rooted i) (is_system_inode place (v.rootino + 1) v.rbmino) (is_system_inode place (v.rootino + 2) v.rsumino))
-
-pub returns-then-not-is_system_inode-clause-first : goal.returns-then-not-is_system_inode-clause-first
-unfolding first_place_fault
-returns-then-not-is_system_inode-clause-first c =
-    let v = c.args.self.now in
-    let place = c.args.place in
-    let blocks = c.args.blocks in
-    let stands : (place % v.agblocks == 0 && nat_lt place v.dblocks) ≡ true =
-    λ i. eq-eqb (place % v.agblocks) 0 c.if-place-self-ne0.false i && lt-ltb place v.dblocks c.if-place-self.false i in
-    let fits : nat_le v.dblocks blocks ≡ true = le-leb v.dblocks blocks c.if-self-blocks.false in
-    let rooted : has_root v ≡ true = sym c.has_root.ensures.value ∙ c.if-not-has_root.false in
-    let second : is_system_inode place (v.rootino + 1) v.rbmino ≡ false = sym c.is_system_inode.ensures ∙ c.if-not-is_system_inode.true in
-    sym (λ i. first_of (stands i) (fits i) (rooted i) (second i) (is_system_inode place (v.rootino + 2) v.rsumino))
-
-pub returns-then-not-is_system_inode-2-clause-first : goal.returns-then-not-is_system_inode-2-clause-first
-unfolding first_place_fault
-returns-then-not-is_system_inode-2-clause-first c =
-    let v = c.args.self.now in
-    let place = c.args.place in
-    let blocks = c.args.blocks in
-    let stands : (place % v.agblocks == 0 && nat_lt place v.dblocks) ≡ true =
-    λ i. eq-eqb (place % v.agblocks) 0 c.if-place-self-ne0.false i && lt-ltb place v.dblocks c.if-place-self.false i in
-    let fits : nat_le v.dblocks blocks ≡ true = le-leb v.dblocks blocks c.if-self-blocks.false in
-    let rooted : has_root v ≡ true = sym c.has_root.ensures.value ∙ c.if-not-has_root.false in
-    let second : is_system_inode place (v.rootino + 1) v.rbmino ≡ true = sym c.is_system_inode.ensures ∙ c.if-not-is_system_inode.false in
-    let third : is_system_inode place (v.rootino + 2) v.rsumino ≡ false = sym c.is_system_inode-2.ensures ∙ c.if-not-is_system_inode-2.true in
-    sym (λ i. first_of (stands i) (fits i) (rooted i) (second i) (third i))
-
-pub returns-clause-first : goal.returns-clause-first
-unfolding first_place_fault
-returns-clause-first c =
-    let v = c.args.self.now in
-    let place = c.args.place in
-    let blocks = c.args.blocks in
-    let stands : (place % v.agblocks == 0 && nat_lt place v.dblocks) ≡ true =
-    λ i. eq-eqb (place % v.agblocks) 0 c.if-place-self-ne0.false i && lt-ltb place v.dblocks c.if-place-self.false i in
-    let fits : nat_le v.dblocks blocks ≡ true = le-leb v.dblocks blocks c.if-self-blocks.false in
-    let rooted : has_root v ≡ true = sym c.has_root.ensures.value ∙ c.if-not-has_root.false in
-    let second : is_system_inode place (v.rootino + 1) v.rbmino ≡ true = sym c.is_system_inode.ensures ∙ c.if-not-is_system_inode.false in
-    let third : is_system_inode place (v.rootino + 2) v.rsumino ≡ true = sym c.is_system_inode-2.ensures ∙ c.if-not-is_system_inode-2.false in
-    sym (λ i. first_of (stands i) (fits i) (rooted i) (second i) (third i))
