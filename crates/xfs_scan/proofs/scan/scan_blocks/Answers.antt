@@ -48,31 +48,26 @@ loop-start-preserved g c =
       reads = counted (D.reads c.args.disk.now) (D.reads c.loop-start.disk) (D.reads c.scan_round.new.disk) c.args.steps.now c.loop-start.steps c.scan_round.new.steps before.reads c.in-Ok.ensures.reads;
     }
 
-pub returns-clause-slots : goal.returns-clause-slots
-returns-clause-slots g c = λ image told.
-    let v = volume_of c.args.g.now in
-    let blocks = c.args.blocks.now in
-    c.loop-start.invariant.slots image told
-    ∙ ap (λ blocks. c.args.slots.now.items ++ map (slot_fact v image) (inodes_of_blocks v blocks)) (take_all c.loop-start.start blocks (omega arith))
-
-pub returns-clause-inodes : goal.returns-clause-inodes
-returns-clause-inodes g c = λ image told.
-    let v = volume_of c.args.g.now in
-    let blocks = c.args.blocks.now in
-    c.loop-start.invariant.inodes image told
-    ∙ ap (λ blocks. gathered_both (held_in c.args.inodes.now) (gathered v image (inodes_of_blocks v blocks))) (take_all c.loop-start.start blocks (omega arith))
+pub returns : goal.returns
+returns g c =
+    record {
+      slots = λ image told.
+          let v = volume_of c.args.g.now in
+          let blocks = c.args.blocks.now in
+          c.loop-start.invariant.slots image told
+          ∙ ap (λ blocks. c.args.slots.now.items ++ map (slot_fact v image) (inodes_of_blocks v blocks)) (take_all c.loop-start.start blocks (omega arith));
+      inodes = λ image told.
+          let v = volume_of c.args.g.now in
+          let blocks = c.args.blocks.now in
+          c.loop-start.invariant.inodes image told
+          ∙ ap (λ blocks. gathered_both (held_in c.args.inodes.now) (gathered v image (inodes_of_blocks v blocks))) (take_all c.loop-start.start blocks (omega arith));
+      cause = c.loop-start.invariant.later;
+      disk = c.loop-start.invariant.disk;
+      reads = c.loop-start.invariant.reads;
+    }
 
 pub scan_round-requires-clause-inside : goal.scan_round-requires-clause-inside
 scan_round-requires-clause-inside g c = λ κs lives. subst (λ (n : ℕ). c.args.g.now.dblocks ≤ n) (sym c.loop-start.invariant.disk.same_size) c.requires.inside
-
-pub returns-clause-cause : goal.returns-clause-cause
-returns-clause-cause g c = c.loop-start.invariant.later
-
-pub returns-clause-disk : goal.returns-clause-disk
-returns-clause-disk g c = c.loop-start.invariant.disk
-
-pub returns-clause-reads : goal.returns-clause-reads
-returns-clause-reads g c = c.loop-start.invariant.reads
 
 pub returns-in-Err : goal.returns-in-Err
 returns-in-Err g c =

@@ -25,12 +25,19 @@ take_round-requires-clause-settled g c =
     (subst (λ (held : Option Image). AreSettled v (IsTold held) bank round left) (sym c.in-Ok-settle_round.ensures.disk.same_contents)
     (c.in-Ok-settle_round.ensures.settled round (subst (AreListed round) (sym c.deref_mut.ensures.value) c.in-Ok-judge_round.ensures.listed)))
 
-pub returns-in-Ok-take_round-clause-disk : goal.returns-in-Ok-take_round-clause-disk
-returns-in-Ok-take_round-clause-disk g c =
+pub returns-in-Ok-take_round : goal.returns-in-Ok-take_round
+returns-in-Ok-take_round g c =
     let D = g.D.Disk in
-    reads_on D.size D.holds D.write_faults D.writes D.tells_stops D.moment D.may_leave D.left_since c.args.disk.now c.load_round.new.disk c.take_round.new.disk c.load_round.ensures.disk
-    (reads_on D.size D.holds D.write_faults D.writes D.tells_stops D.moment D.may_leave D.left_since c.load_round.new.disk c.settle_round.new.disk c.take_round.new.disk
-    c.settle_round.ensures.disk c.take_round.ensures.disk)
+    record {
+      slots = λ image told. c.in-Ok-take_round.ensures.facts image (c.settle_round.ensures.disk.same_contents ∙ (c.load_round.ensures.disk.same_contents ∙ told));
+      inodes = λ image told. c.in-Ok-take_round.ensures.held image (c.settle_round.ensures.disk.same_contents ∙ (c.load_round.ensures.disk.same_contents ∙ told));
+      cause = later (D.faults c.args.disk.now) (D.faults c.settle_round.new.disk) (D.faults c.take_round.new.disk) (later (D.faults c.args.disk.now) (D.faults c.load_round.new.disk) (D.faults c.settle_round.new.disk) c.in-Ok.ensures.cause c.in-Ok-settle_round.ensures.cause) c.in-Ok-take_round.ensures.cause;
+      disk = reads_on D.size D.holds D.write_faults D.writes D.tells_stops D.moment D.may_leave D.left_since c.args.disk.now c.load_round.new.disk c.take_round.new.disk c.load_round.ensures.disk
+          (reads_on D.size D.holds D.write_faults D.writes D.tells_stops D.moment D.may_leave D.left_since c.load_round.new.disk c.settle_round.new.disk c.take_round.new.disk
+          c.settle_round.ensures.disk c.take_round.ensures.disk);
+      reads = counted (D.reads c.args.disk.now) (D.reads c.settle_round.new.disk) (D.reads c.take_round.new.disk) c.args.steps.now c.settle_round.new.steps c.take_round.new.steps
+          (counted (D.reads c.args.disk.now) (D.reads c.load_round.new.disk) (D.reads c.settle_round.new.disk) c.args.steps.now c.load_round.new.steps c.settle_round.new.steps c.load_round.ensures.reads c.settle_round.ensures.reads) c.take_round.ensures.reads;
+    }
 
 pub load_round-requires : goal.load_round-requires
 load_round-requires g c = record { inside = all_below c.args.g.now.dblocks (g.D.Disk.size c.args.disk.now) c.args.round.now c.requires.inside c.requires.volume }
@@ -60,23 +67,6 @@ take_round-requires-clause-bank g c = c.in-Ok.ensures.size
 
 pub take_round-requires-clause-held : goal.take_round-requires-clause-held
 take_round-requires-clause-held g c = λ image told. c.in-Ok.ensures.held image (sym (c.settle_round.ensures.disk.same_contents ∙ c.load_round.ensures.disk.same_contents) ∙ told)
-
-pub returns-in-Ok-take_round-clause-slots : goal.returns-in-Ok-take_round-clause-slots
-returns-in-Ok-take_round-clause-slots g c = λ image told. c.in-Ok-take_round.ensures.facts image (c.settle_round.ensures.disk.same_contents ∙ (c.load_round.ensures.disk.same_contents ∙ told))
-
-pub returns-in-Ok-take_round-clause-inodes : goal.returns-in-Ok-take_round-clause-inodes
-returns-in-Ok-take_round-clause-inodes g c = λ image told. c.in-Ok-take_round.ensures.held image (c.settle_round.ensures.disk.same_contents ∙ (c.load_round.ensures.disk.same_contents ∙ told))
-
-pub returns-in-Ok-take_round-clause-cause : goal.returns-in-Ok-take_round-clause-cause
-returns-in-Ok-take_round-clause-cause g c =
-    let D = g.D.Disk in
-    later (D.faults c.args.disk.now) (D.faults c.settle_round.new.disk) (D.faults c.take_round.new.disk) (later (D.faults c.args.disk.now) (D.faults c.load_round.new.disk) (D.faults c.settle_round.new.disk) c.in-Ok.ensures.cause c.in-Ok-settle_round.ensures.cause) c.in-Ok-take_round.ensures.cause
-
-pub returns-in-Ok-take_round-clause-reads : goal.returns-in-Ok-take_round-clause-reads
-returns-in-Ok-take_round-clause-reads g c =
-    let D = g.D.Disk in
-    counted (D.reads c.args.disk.now) (D.reads c.settle_round.new.disk) (D.reads c.take_round.new.disk) c.args.steps.now c.settle_round.new.steps c.take_round.new.steps
-    (counted (D.reads c.args.disk.now) (D.reads c.load_round.new.disk) (D.reads c.settle_round.new.disk) c.args.steps.now c.load_round.new.steps c.settle_round.new.steps c.load_round.ensures.reads c.settle_round.ensures.reads) c.take_round.ensures.reads
 
 pub returns-in-Err-ReadFault : goal.returns-in-Err-ReadFault
 returns-in-Err-ReadFault g c =

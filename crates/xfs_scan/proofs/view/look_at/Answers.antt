@@ -27,11 +27,17 @@ loop-block-preserved g c =
       reads = counted (D.reads c.args.disk.now) (D.reads c.loop-block.disk) (D.reads c.look_at_block.new.disk) c.args.steps.now c.loop-block.steps c.look_at_block.new.steps before.reads c.in-Ok.ensures.reads;
     }
 
-pub returns-clause-held : goal.returns-clause-held
-returns-clause-held g c = λ image told.
-    let v = volume_of c.args.g.now in
-    slots_end v image (inodes_of_blocks v (drop c.loop-block.block-index c.args.blocks.now)) (held_in c.loop-block.inodes) _
-    (ap (flat_map (inodes_of_block v)) (none_left c.args.blocks.now c.loop-block.block-index c.loop-block-test.false)) (c.loop-block.invariant.held image told)
+pub returns : goal.returns
+returns g c =
+    record {
+      held = λ image told.
+          let v = volume_of c.args.g.now in
+          slots_end v image (inodes_of_blocks v (drop c.loop-block.block-index c.args.blocks.now)) (held_in c.loop-block.inodes) _
+          (ap (flat_map (inodes_of_block v)) (none_left c.args.blocks.now c.loop-block.block-index c.loop-block-test.false)) (c.loop-block.invariant.held image told);
+      cause = c.loop-block.invariant.later;
+      disk = c.loop-block.invariant.disk;
+      reads = c.loop-block.invariant.reads;
+    }
 
 pub loop-block-init : goal.loop-block-init
 loop-block-init g c =
@@ -48,15 +54,6 @@ look_at_block-requires-clause-inside g c = subst (λ (n : ℕ). c.args.g.now.dbl
 
 pub look_at_block-requires-clause-low : goal.look_at_block-requires-clause-low
 look_at_block-requires-clause-low g c = c.requires.low c.loop-block.block-index 0 c.loop-block-test.true
-
-pub returns-clause-cause : goal.returns-clause-cause
-returns-clause-cause g c = c.loop-block.invariant.later
-
-pub returns-clause-disk : goal.returns-clause-disk
-returns-clause-disk g c = c.loop-block.invariant.disk
-
-pub returns-clause-reads : goal.returns-clause-reads
-returns-clause-reads g c = c.loop-block.invariant.reads
 
 pub returns-in-Err : goal.returns-in-Err
 returns-in-Err g c =

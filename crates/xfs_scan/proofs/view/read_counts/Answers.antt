@@ -5,27 +5,30 @@ use Rattle.xfs_slots.proofs.Rests.{read_bytes}
 use Rattle.xfs_scan.proofs.Counts.{counted_none, counted_once}
 use Rattle.xfs_scan.proofs.view.read_counts.Goals as goal
 
-pub returns-in-Ok-clause-cause : goal.returns-in-Ok-clause-cause
-returns-in-Ok-clause-cause g c = c.in-Ok.ensures.cause
-
-pub returns-in-Ok-clause-disk : goal.returns-in-Ok-clause-disk
-returns-in-Ok-clause-disk g c = record {
-  same_size = c.in-Ok.ensures.size;
-  same_contents = c.in-Ok.ensures.holds;
-  same_write_faults = c.in-Ok.ensures.write_faults;
-  same_writes = c.in-Ok.ensures.writes;
-  tells = c.in-Ok.ensures.tells;
-  leaves = c.in-Ok.ensures.stops;
-  past = c.in-Ok.ensures.past;
-}
-
-pub returns-in-Ok-clause-reads : goal.returns-in-Ok-clause-reads
-returns-in-Ok-clause-reads g c =
+pub returns-in-Ok : goal.returns-in-Ok
+returns-in-Ok g c =
     let D = g.D.Disk in
-    counted_once (D.reads c.args.disk.now) (D.reads c.read.new.self) c.args.steps.now c.tick.new.self c.in-Ok.ensures.reads c.tick.ensures
-
-pub returns-in-Ok-clause-ticks : goal.returns-in-Ok-clause-ticks
-returns-in-Ok-clause-ticks g c = c.tick.ensures
+    record {
+      counts = λ image told.
+          let bytes : c.read.new.into ≡ bytes_of_block image 0 = sym (read_bytes image 0 c.read.new.into (c.in-Ok.ensures.bytes image told)) in
+          λ i. record {
+            icount = (c.get64.ensures ∙ ap (λ (block : List ℕ). field_of block 128 8) bytes) i;
+            ifree = (c.get64-in-Ok.ensures ∙ ap (λ (block : List ℕ). field_of block 136 8) bytes) i;
+            fdblocks = (c.get64-in-Ok-2.ensures ∙ ap (λ (block : List ℕ). field_of block 144 8) bytes) i;
+          };
+      cause = c.in-Ok.ensures.cause;
+      disk = record {
+        same_size = c.in-Ok.ensures.size;
+        same_contents = c.in-Ok.ensures.holds;
+        same_write_faults = c.in-Ok.ensures.write_faults;
+        same_writes = c.in-Ok.ensures.writes;
+        tells = c.in-Ok.ensures.tells;
+        leaves = c.in-Ok.ensures.stops;
+        past = c.in-Ok.ensures.past;
+      };
+      reads = counted_once (D.reads c.args.disk.now) (D.reads c.read.new.self) c.args.steps.now c.tick.new.self c.in-Ok.ensures.reads c.tick.ensures;
+      ticks = c.tick.ensures;
+    }
 
 pub returns-in-Err : goal.returns-in-Err
 returns-in-Err g c =
@@ -44,13 +47,4 @@ returns-in-Err g c =
       };
       reads = counted_none (D.reads c.args.disk.now) (D.reads c.read.new.self) c.args.steps.now c.tick.new.self c.in-Err.ensures.reads c.tick.ensures;
       ticks = c.tick.ensures;
-    }
-
-pub returns-in-Ok-clause-counts : goal.returns-in-Ok-clause-counts
-returns-in-Ok-clause-counts g c = λ image told.
-    let bytes : c.read.new.into ≡ bytes_of_block image 0 = sym (read_bytes image 0 c.read.new.into (c.in-Ok.ensures.bytes image told)) in
-    λ i. record {
-      icount = (c.get64.ensures ∙ ap (λ (block : List ℕ). field_of block 128 8) bytes) i;
-      ifree = (c.get64-in-Ok.ensures ∙ ap (λ (block : List ℕ). field_of block 136 8) bytes) i;
-      fdblocks = (c.get64-in-Ok-2.ensures ∙ ap (λ (block : List ℕ). field_of block 144 8) bytes) i;
     }
