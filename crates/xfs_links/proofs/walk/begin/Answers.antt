@@ -32,13 +32,17 @@ loop-step-preserved c = record {
       c.loop-step.invariant.pending c.in_ok-take_directory.ensures.pending;
 }
 
-pub returns-in_default-clause-turn : goal.returns-in_default-clause-turn
-returns-in_default-clause-turn c =
-    sym (turns_done (named_at c.args.files.now c.args.candidates.now) (c.args.steps - c.loop-step.step) (length c.as_slice-from.result.now + c.loop-step.step) c.loop-step.turn.items
-    (turn_over c.loop-step.turn.items c.deref.result.now (length c.as_slice-from.result.now + c.loop-step.step) c.directory_at.result c.deref.ensures.value c.directory_at.ensures c.in_default.is))
-    ∙ c.loop-step.invariant.leads
-    ∙ begin_is c.args.files.now c.args.weave.now (named_at c.args.files.now c.args.candidates.now) c.args.steps c.args.root c.args.start (length c.as_slice-from.result.now)
-    c.args.turn.now.items c.attach.new.turn.items c.as_slice-from.result.now c.start_parent.result c.requires.steady c.requires.start c.as_slice-from.ensures.value refl c.start_parent.ensures c.in_ok-attach.ensures.turn
+pub returns-in_default : goal.returns-in_default
+returns-in_default c =
+    record {
+      turn = sym (turns_done (named_at c.args.files.now c.args.candidates.now) (c.args.steps - c.loop-step.step) (length c.as_slice-from.result.now + c.loop-step.step) c.loop-step.turn.items
+          (turn_over c.loop-step.turn.items c.deref.result.now (length c.as_slice-from.result.now + c.loop-step.step) c.directory_at.result c.deref.ensures.value c.directory_at.ensures c.in_default.is))
+          ∙ c.loop-step.invariant.leads
+          ∙ begin_is c.args.files.now c.args.weave.now (named_at c.args.files.now c.args.candidates.now) c.args.steps c.args.root c.args.start (length c.as_slice-from.result.now)
+          c.args.turn.now.items c.attach.new.turn.items c.as_slice-from.result.now c.start_parent.result c.requires.steady c.requires.start c.as_slice-from.ensures.value refl c.start_parent.ensures c.in_ok-attach.ensures.turn;
+      steady = c.loop-step.invariant.steady;
+      pending = c.loop-step.invariant.pending;
+    }
 
 pub attach-requires-clause-steady : goal.attach-requires-clause-steady
 attach-requires-clause-steady c = c.requires.steady
@@ -55,17 +59,17 @@ attach-requires-clause-list c = c.start_list.ensures
 pub take_directory-requires-clause-steady : goal.take_directory-requires-clause-steady
 take_directory-requires-clause-steady c = c.loop-step.invariant.steady
 
-pub returns-in_default-clause-steady : goal.returns-in_default-clause-steady
-returns-in_default-clause-steady c = c.loop-step.invariant.steady
-
-pub returns-in_default-clause-pending : goal.returns-in_default-clause-pending
-returns-in_default-clause-pending c = c.loop-step.invariant.pending
-
-pub returns-after-loop-step-clause-steady : goal.returns-after-loop-step-clause-steady
-returns-after-loop-step-clause-steady c = c.loop-step.invariant.steady
-
-pub returns-after-loop-step-clause-pending : goal.returns-after-loop-step-clause-pending
-returns-after-loop-step-clause-pending c = c.loop-step.invariant.pending
+pub returns-after-loop-step : goal.returns-after-loop-step
+returns-after-loop-step c =
+    record {
+      turn = ap (λ (n : ℕ). turns (named_at c.args.files.now c.args.candidates.now) n (length c.as_slice-from.result.now + c.loop-step.step) c.loop-step.turn.items)
+          (sym (all_gone c.args.steps c.loop-step.step c.loop-step-test.false))
+          ∙ c.loop-step.invariant.leads
+          ∙ begin_is c.args.files.now c.args.weave.now (named_at c.args.files.now c.args.candidates.now) c.args.steps c.args.root c.args.start (length c.as_slice-from.result.now)
+          c.args.turn.now.items c.attach.new.turn.items c.as_slice-from.result.now c.start_parent.result c.requires.steady c.requires.start c.as_slice-from.ensures.value refl c.start_parent.ensures c.in_ok-attach.ensures.turn;
+      steady = c.loop-step.invariant.steady;
+      pending = c.loop-step.invariant.pending;
+    }
 
 pub loop-step-init : goal.loop-step-init
 loop-step-init c = record {
@@ -73,14 +77,6 @@ loop-step-init c = record {
   leads = ap₂ (λ (n k : ℕ). turns (named_at c.args.files.now c.args.candidates.now) n k c.attach.new.turn.items) (none_gone c.args.steps) (none_added (length c.as_slice-from.result.now));
   pending = c.in_ok-attach.ensures.pending;
 }
-
-pub returns-after-loop-step-clause-turn : goal.returns-after-loop-step-clause-turn
-returns-after-loop-step-clause-turn c =
-    ap (λ (n : ℕ). turns (named_at c.args.files.now c.args.candidates.now) n (length c.as_slice-from.result.now + c.loop-step.step) c.loop-step.turn.items)
-    (sym (all_gone c.args.steps c.loop-step.step c.loop-step-test.false))
-    ∙ c.loop-step.invariant.leads
-    ∙ begin_is c.args.files.now c.args.weave.now (named_at c.args.files.now c.args.candidates.now) c.args.steps c.args.root c.args.start (length c.as_slice-from.result.now)
-    c.args.turn.now.items c.attach.new.turn.items c.as_slice-from.result.now c.start_parent.result c.requires.steady c.requires.start c.as_slice-from.ensures.value refl c.start_parent.ensures c.in_ok-attach.ensures.turn
 
 pub returns-in_err-attach : goal.returns-in_err-attach
 returns-in_err-attach c = record { turn = IfOk-from_err c.from_residual.result _ c.from_residual.ensures.0; steady = IfOk-from_err c.from_residual.result _ c.from_residual.ensures.0; pending = IfOk-from_err c.from_residual.result _ c.from_residual.ensures.0 }
