@@ -50,3 +50,14 @@ pub piece_counted : (f : ℕ → List ℕ) (old mid new : List ℕ) (i : ℕ)
 piece_counted f old mid new i before now =
     let last : 0 + i ≡ i = omega arith in
     rw (counted 0 i, last, flat_map-append, append-nil, ← append_assoc, ← before) now
+
+-- the same of items of a list
+pub piece_more : {X : Type 0} (f : X → List ℕ) (old mid new : List ℕ) (xs : List X) (i : ℕ) (d : X) → i < length xs
+    → mid ≡ old ++ flat_map f (take i xs) → new ≡ mid ++ f (get_or xs i d) → new ≡ old ++ flat_map f (take (i + 1) xs)
+piece_more f old mid new xs i d within before now =
+    rw (take_more xs i d within, flat_map-append, append-nil, ← append_assoc, ← before) now
+
+pub piece_mapped : {X Y : Type 0} (f : Y → List ℕ) (g : X → Y) (old mid new : List ℕ) (xs : List X) (i : ℕ) (d : X) → i < length xs
+    → mid ≡ old ++ flat_map f (map g (take i xs)) → new ≡ mid ++ f (g (get_or xs i d)) → new ≡ old ++ flat_map f (map g (take (i + 1) xs))
+piece_mapped f g old mid new xs i d within before now =
+    rw (take_more xs i d within, map-append, flat_map-append, append-nil, ← append_assoc, ← before) now

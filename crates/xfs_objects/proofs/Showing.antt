@@ -1,5 +1,6 @@
 -- Texts that are printed byte by byte.
-use Rattle.std.proofs.Common.{◌≡◌, ℕ, suc, ◌+◌, ◌<◌, ◌≢◌, ◌==◌, Bool, false, not, cond, List, ◌∷◌, ◌++◌, length, take, drop, get_or, drop-cons, sym, ◌∙◌, ap, append_assoc, arith}
+use Rattle.std.proofs.Common.{◌≡◌, ℕ, suc, ◌+◌, ◌<◌, ◌≤◌, ◌≢◌, ◌==◌, Bool, false, not, cond, List, [], ◌∷◌, ◌++◌, length, take, drop, get_or, drop-cons, sym, ◌∙◌, ap, append_assoc, append-nil, arith}
+use Rattle.std.proofs.lemmas.List.{drop_all}
 use Rattle.std.specs.List.{flat_map, prefix_len, take_while}
 use Rattle.std.proofs.lemmas.Bool.Decides.{nat_tests}
 use Rattle.xfs_objects.specs.Values.{escaped}
@@ -28,3 +29,15 @@ shown_more mid new bytes i within some now =
     ∙ append_assoc mid (escaped (get_or bytes i 0)) (shown (drop (i + 1) bytes))
     ∙ ap (λ (t : List ℕ). mid ++ t) (sym (shown_cons (get_or bytes i 0) (drop (i + 1) bytes) some))
     ∙ ap (λ (bs : List ℕ). mid ++ shown bs) (sym (rest_from bytes i within))
+
+-- nothing of the rest is shown
+none_shown : (text whole rest : List ℕ) → shown rest ≡ [] → text ++ shown rest ≡ whole → text ≡ whole
+none_shown text whole rest none all = sym (append-nil text) ∙ ap (λ (t : List ℕ). text ++ t) (sym none) ∙ all
+
+-- a zero byte ends what is shown
+pub shown_stops : (text whole bytes : List ℕ) (i : ℕ) → i < length bytes → get_or bytes i 0 ≡ 0 → text ++ shown (drop i bytes) ≡ whole → text ≡ whole
+shown_stops text whole bytes i within zero_is all =
+    none_shown text whole (drop i bytes) (ap shown (rest_from bytes i within) ∙ ap (λ (b : ℕ). shown (b ∷ drop (i + 1) bytes)) zero_is) all
+
+pub shown_all : (text whole bytes : List ℕ) (i : ℕ) → length bytes ≤ i → text ++ shown (drop i bytes) ≡ whole → text ≡ whole
+shown_all text whole bytes i past all = none_shown text whole (drop i bytes) (ap shown (drop_all i bytes past)) all
