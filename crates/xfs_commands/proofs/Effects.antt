@@ -1,5 +1,5 @@
 -- What a call did, from the clauses of the call that it ends with.
-use Rattle.std.proofs.Common.{◌≡◌, ℕ, List, ◌++◌, None, Result, Ok, Err, IfOk, refl, ap, subst}
+use Rattle.std.proofs.Common.{◌≡◌, ℕ, List, ◌++◌, Option, Some, None, Result, Ok, Err, IfOk, IfSome, refl, ap, subst}
 use Rattle.std.specs.Prelude.{OnOk}
 use Rattle.xfs_commands.specs.Commands.{Session, Effect, IsEffect, Put, put_of, refuses}
 use Rattle.xfs_commands.specs.declared.cursor.Verdict.{Verdict}
@@ -26,3 +26,8 @@ refused_put (Err e) old new line s at block verdict text = tt
 pub effect_put : {E : Type 0} (r : Result Verdict E) (old new : List ℕ) (s : Session) (at : ℕ) (block : List ℕ) (e f : Effect) → f ≡ e
     → IfOk r (λ (v : Verdict). IsEffect f v old new s (put_of v at block)) → IfOk r (λ (v : Verdict). IsEffect e v old new s (put_of v at block))
 effect_put r old new s at block e f is did = subst (λ (x : Effect). IfOk r (λ (v : Verdict). IsEffect x v old new s (put_of v at block))) is did
+
+-- two facts of a place that is there are one
+pub both_of : {X : Type 0} (P Q : X → Type 0) (o : Option X) → IfSome o P → IfSome o Q → IfSome o (λ (x : X). P x × Q x)
+both_of P Q None p q = tt
+both_of P Q (Some x) p q = (p, q)

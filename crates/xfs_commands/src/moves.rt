@@ -5,7 +5,7 @@ ghost use Rattle.xfs_geom.specs.Volumes.{volume_of};
 ghost use Rattle.xfs_commands.specs.Commands.{at_group, converts, goes_to, group_start, hash_text, does, line_of_stack, session_of, sets_type, stack_line, stack_text, tells_spot, to_group, to_head, to_number, to_spot, types, IsEffect, IsWithin};
 ghost use Rattle.xfs_objects.specs.Places.{pair_of};
 ghost use Rattle.xfs_objects.specs.Numbers.{typed};
-ghost use Rattle.xfs_objects.specs.Objects.{type_named};
+ghost use Rattle.xfs_objects.specs.Objects.{type_name, type_named};
 ghost use Rattle.std.specs.Option.{option_map};
 ghost use Rattle.std.specs.List.{flat_map, range_with_len};
 
@@ -239,8 +239,15 @@ fn push_numbered(text: &mut Vec<u8>, i: usize, place: &ObjectPlace) -> Result<()
     push_decimal(text, place.block)?;
     text.extend_from_slice(b" sector ")?;
     push_decimal(text, place.sector as u64)?;
-    text.extend_from_slice(b" type ")?;
-    text.extend_from_slice(place.kind.name().as_bytes())?;
+    push_type(text, b" type ", place.kind)
+}
+
+/// Adds the name of a type behind a label, and the end of the line.
+fn push_type(text: &mut Vec<u8>, label: &[u8], kind: ObjectType) -> Result<(), NoMemory>
+    ensures { OnOk result (text.new.items ≡ text.old.items ++ (label.now ++ type_name kind ++ codes "\n")) }
+{
+    text.extend_from_slice(label)?;
+    text.extend_from_slice(kind.name().as_bytes())?;
     text.extend_from_slice(b"\n")?;
     Ok(())
 }
@@ -258,9 +265,7 @@ pub(crate) fn set_type(
     ensures effect { IfOk result (λ verdict. IsEffect (types place arguments.now (session_of cursor.old)) verdict text.old.items text.new.items (session_of cursor.new) None) }
 {
     if arguments.is_empty() {
-        text.extend_from_slice(b"type = ")?;
-        text.extend_from_slice(place.kind.name().as_bytes())?;
-        text.extend_from_slice(b"\n")?;
+        push_type(text, b"type = ", place.kind)?;
         return Ok(Verdict::Done);
     }
     set_type_named(text, cursor, place, arguments[0].bytes())

@@ -25,6 +25,21 @@ use xfs_word::crc_skipping;
 /// The index of the checksum in the tables of both headers of tree blocks.
 const CHECKSUM: usize = 9;
 
+/// The byte offsets of the checksums of objects.
+const SUPER_CRC: usize = superblock::CRC.offset;
+
+const AGF_CRC: usize = agf::CRC.offset;
+
+const AGI_CRC: usize = agi::CRC.offset;
+
+const AGFL_CRC: usize = agfl::CRC.offset;
+
+const INODE_CRC: usize = inode::CRC.offset;
+
+const LONG_CRC: usize = LONG[CHECKSUM].offset;
+
+const SHORT_CRC: usize = SHORT[CHECKSUM].offset;
+
 /// Writes a number into an object of a block, seals the object anew, and prints what was written.
 #[tactic(auto, unfolding(crate::specs::Commands::sets))]
 pub fn set(
@@ -224,12 +239,12 @@ fn checksum_at(kind: ObjectType) -> usize
     ensures inside { result + 4 ≤ object_size kind }
 {
     match kind {
-        ObjectType::Sb => superblock::CRC.offset,
-        ObjectType::Agf => agf::CRC.offset,
-        ObjectType::Agi => agi::CRC.offset,
-        ObjectType::Agfl => agfl::CRC.offset,
-        ObjectType::Inode => inode::CRC.offset,
-        ObjectType::Bmapbt => LONG[CHECKSUM].offset,
-        _ => SHORT[CHECKSUM].offset,
+        ObjectType::Sb => SUPER_CRC,
+        ObjectType::Agf => AGF_CRC,
+        ObjectType::Agi => AGI_CRC,
+        ObjectType::Agfl => AGFL_CRC,
+        ObjectType::Inode => INODE_CRC,
+        ObjectType::Bmapbt => LONG_CRC,
+        _ => SHORT_CRC,
     }
 }
