@@ -60,99 +60,132 @@ pub fn put_answer<S: Sink>(sink: &mut S, answer: Answer) -> Result<(), Failed>
     ensures { PutsText (S.took sink.old) (S.took sink.new) (S.faults sink.old) (S.faults sink.new) (text_of answer) result }
 {
     match answer {
-        Answer::Usage { word } => put_one(sink, "xfs: usage: word ", word as u64, "\n"),
-        Answer::NoGeometry => put_line(sink, &[], "xfs: no geometry\n"),
+        Answer::Usage { word } => put_one(sink, "xfs: usage: word ", word as u64),
+        Answer::NoGeometry => put_plain(sink, "xfs: no geometry\n"),
         Answer::Unsupported { word, bits } => put_unsupported(sink, word, bits),
-        Answer::DirtyLog => put_line(sink, &[], "xfs: dirty log\n"),
+        Answer::DirtyLog => put_plain(sink, "xfs: dirty log\n"),
         Answer::TooLarge { what, count } => put_too_large(sink, what, count),
         Answer::UnsupportedFile { ino, what } => put_unsupported_file(sink, ino, what),
-        Answer::Clean => put_line(sink, &[], "clean\n"),
+        Answer::Clean => put_plain(sink, "clean\n"),
         Answer::Damaged(finding) => put_finding(sink, finding),
         Answer::Repaired(summary) => put_summary(sink, summary),
         Answer::BadOption { word, item } => put_bad_option(sink, word, item),
-        Answer::TooSmall { what } => put_one(sink, "xfs: too small: ", what as u64, "\n"),
-        Answer::HasVolume => put_line(sink, &[], "xfs: has a volume\n"),
+        Answer::TooSmall { what } => put_one(sink, "xfs: too small: ", what as u64),
+        Answer::HasVolume => put_plain(sink, "xfs: has a volume\n"),
         Answer::BadProto { line, reason } => put_bad_proto(sink, line, reason),
-        Answer::NoFile { line } => put_one(sink, "xfs: no file: line ", line, "\n"),
-        Answer::LibraryFault => put_line(sink, &[], "xfs: library fault\n"),
+        Answer::NoFile { line } => put_one(sink, "xfs: no file: line ", line),
+        Answer::LibraryFault => put_plain(sink, "xfs: library fault\n"),
         Answer::NoRoom(place) => put_no_room(sink, place),
         Answer::Made(made) => put_made(sink, &made),
-        Answer::ReadFault { faults } => put_one(sink, "xfs: read fault: ", faults, "\n"),
-        Answer::WriteFault { written } => put_one(
-            sink,
-            "xfs: write fault after ",
-            written,
-            " blocks\n",
-        ),
-        Answer::OutputFault | Answer::Done => put_line(sink, &[], ""),
-        Answer::NoMemory => put_line(sink, &[], "xfs: no memory\n"),
-        Answer::InputFault => put_line(sink, &[], "xfs: input fault\n"),
-        Answer::InputLong => put_line(sink, &[], "xfs: input too long\n"),
+        Answer::ReadFault { faults } => put_one(sink, "xfs: read fault: ", faults),
+        Answer::WriteFault { written } => put_write_fault(sink, written),
+        Answer::OutputFault | Answer::Done => put_plain(sink, ""),
+        Answer::NoMemory => put_plain(sink, "xfs: no memory\n"),
+        Answer::InputFault => put_plain(sink, "xfs: input fault\n"),
+        Answer::InputLong => put_plain(sink, "xfs: input too long\n"),
         Answer::Help(tool) => put_help(sink, tool),
         Answer::Version(tool) => put_version(sink, tool),
     }
 }
 
-/// Puts a number with a label before it, and what ends its line.
-fn put_one<S: Sink>(sink: &mut S, label: &str, number: u64, end: &str) -> Result<(), Failed>
-    ensures { PutsText (S.took sink.old) (S.took sink.new) (S.faults sink.old) (S.faults sink.new) (line ((label.now, Number.Decimal number) ∷ []) end.now) result }
+/// Puts a number with a label before it, and the end of its line.
+fn put_one<S: Sink>(sink: &mut S, label: &str, number: u64) -> Result<(), Failed>
+    ensures { PutsText (S.took sink.old) (S.took sink.new) (S.faults sink.old) (S.faults sink.new) (line ((label.now, Number.Decimal number) ∷ []) (codes "\n")) result }
 {
-    put_line(sink, &[(label, Number::Decimal(number))], end)
+    put_line(sink, &[(label, Number::Decimal(number))], "\n")
+}
+
+/// Puts the line of a write that failed.
+fn put_write_fault<S: Sink>(sink: &mut S, written: u64) -> Result<(), Failed>
+    ensures { PutsText (S.took sink.old) (S.took sink.new) (S.faults sink.old) (S.faults sink.new) (text_of (Answer.WriteFault written)) result }
+{
+    let number = Number::Decimal(written);
+    put_line(sink, &[("xfs: write fault after ", number)], " blocks\n")
+}
+
+/// Puts a line without numbers.
+fn put_plain<S: Sink>(sink: &mut S, text: &str) -> Result<(), Failed>
+    ensures { PutsText (S.took sink.old) (S.took sink.new) (S.faults sink.old) (S.faults sink.new) (line [] text.now) result }
+{
+    put_line(sink, &[], text)
+}
+
+/// Puts two numbers with a label before each, and the end of their line.
+fn put_two<S: Sink>(
+    sink: &mut S,
+    label: &str,
+    number: Number,
+    next: &str,
+    behind: Number,
+) -> Result<(), Failed>
+    ensures { PutsText (S.took sink.old) (S.took sink.new) (S.faults sink.old) (S.faults sink.new) (line ((label.now, number) ∷ (next.now, behind) ∷ []) (codes "\n")) result }
+{
+    put_line(sink, &[(label, number), (next, behind)], "\n")
 }
 
 /// Puts the line of a protofile that is none.
 fn put_bad_proto<S: Sink>(sink: &mut S, line: u64, reason: u8) -> Result<(), Failed>
     ensures { PutsText (S.took sink.old) (S.took sink.new) (S.faults sink.old) (S.faults sink.new) (text_of (Answer.BadProto line reason)) result }
 {
-    let numbers = [
-        ("xfs: bad protofile: line ", Number::Decimal(line)),
-        (" reason ", Number::Decimal(reason as u64)),
-    ];
-    put_line(sink, &numbers, "\n")
+    put_two(
+        sink,
+        "xfs: bad protofile: line ",
+        Number::Decimal(line),
+        " reason ",
+        Number::Decimal(reason as u64),
+    )
 }
 
 /// Puts the line of a refused feature word.
 fn put_unsupported<S: Sink>(sink: &mut S, word: u8, bits: u64) -> Result<(), Failed>
     ensures { PutsText (S.took sink.old) (S.took sink.new) (S.faults sink.old) (S.faults sink.new) (text_of (Answer.Unsupported word bits)) result }
 {
-    let numbers = [
-        ("xfs: unsupported: word ", Number::Decimal(word as u64)),
-        (" bits 0x", Number::Hexadecimal(bits)),
-    ];
-    put_line(sink, &numbers, "\n")
+    put_two(
+        sink,
+        "xfs: unsupported: word ",
+        Number::Decimal(word as u64),
+        " bits 0x",
+        Number::Hexadecimal(bits),
+    )
 }
 
 /// Puts the line of a volume that is too large.
 fn put_too_large<S: Sink>(sink: &mut S, what: u8, count: u64) -> Result<(), Failed>
     ensures { PutsText (S.took sink.old) (S.took sink.new) (S.faults sink.old) (S.faults sink.new) (text_of (Answer.TooLarge what count)) result }
 {
-    let numbers = [
-        ("xfs: too large: ", Number::Decimal(what as u64)),
-        (" count ", Number::Decimal(count)),
-    ];
-    put_line(sink, &numbers, "\n")
+    put_two(
+        sink,
+        "xfs: too large: ",
+        Number::Decimal(what as u64),
+        " count ",
+        Number::Decimal(count),
+    )
 }
 
 /// Puts the line of a file that is not supported.
 fn put_unsupported_file<S: Sink>(sink: &mut S, ino: u64, what: u8) -> Result<(), Failed>
     ensures { PutsText (S.took sink.old) (S.took sink.new) (S.faults sink.old) (S.faults sink.new) (text_of (Answer.UnsupportedFile ino what)) result }
 {
-    let numbers = [
-        ("xfs: unsupported: inode ", Number::Decimal(ino)),
-        (" feature ", Number::Decimal(what as u64)),
-    ];
-    put_line(sink, &numbers, "\n")
+    put_two(
+        sink,
+        "xfs: unsupported: inode ",
+        Number::Decimal(ino),
+        " feature ",
+        Number::Decimal(what as u64),
+    )
 }
 
 /// Puts the line of a bad item of a word.
 fn put_bad_option<S: Sink>(sink: &mut S, word: usize, item: u8) -> Result<(), Failed>
     ensures { PutsText (S.took sink.old) (S.took sink.new) (S.faults sink.old) (S.faults sink.new) (text_of (Answer.BadOption word item)) result }
 {
-    let numbers = [
-        ("xfs: bad option: word ", Number::Decimal(word as u64)),
-        (" item ", Number::Decimal(item as u64)),
-    ];
-    put_line(sink, &numbers, "\n")
+    put_two(
+        sink,
+        "xfs: bad option: word ",
+        Number::Decimal(word as u64),
+        " item ",
+        Number::Decimal(item as u64),
+    )
 }
 
 /// Puts the line of what finds no room.
@@ -160,11 +193,11 @@ fn put_no_room<S: Sink>(sink: &mut S, place: Unplaced) -> Result<(), Failed>
     ensures { PutsText (S.took sink.old) (S.took sink.new) (S.faults sink.old) (S.faults sink.new) (no_room_text place) result }
 {
     match place {
-        Unplaced::Group(ag) => put_one(sink, "xfs: no room: group ", ag as u64, "\n"),
-        Unplaced::Directory(ino) => put_one(sink, "xfs: no room: directory ", ino, "\n"),
-        Unplaced::File(ino) => put_one(sink, "xfs: no room: file ", ino, "\n"),
-        Unplaced::Chunk => put_line(sink, &[], "xfs: no room: chunk\n"),
-        Unplaced::LostFound => put_line(sink, &[], "xfs: no room: lost+found\n"),
+        Unplaced::Group(ag) => put_one(sink, "xfs: no room: group ", ag as u64),
+        Unplaced::Directory(ino) => put_one(sink, "xfs: no room: directory ", ino),
+        Unplaced::File(ino) => put_one(sink, "xfs: no room: file ", ino),
+        Unplaced::Chunk => put_plain(sink, "xfs: no room: chunk\n"),
+        Unplaced::LostFound => put_plain(sink, "xfs: no room: lost+found\n"),
     }
 }
 
@@ -202,18 +235,20 @@ pub(crate) fn put_made_lines<S: Sink>(
 fn put_generated<S: Sink>(sink: &mut S, files: u32) -> Result<(), Failed>
     ensures { PutsText (S.took sink.old) (S.took sink.new) (S.faults sink.old) (S.faults sink.new) (generated_text files) result }
 {
-    let numbers = [
-        ("generated: files=", Number::Decimal(files as u64)),
-        (" directories=", Number::Decimal(directory_count(files))),
-    ];
-    put_line(sink, &numbers, "\n")
+    put_two(
+        sink,
+        "generated: files=",
+        Number::Decimal(files as u64),
+        " directories=",
+        Number::Decimal(directory_count(files)),
+    )
 }
 
 /// Puts the line of a block that was written as zeros.
 pub(crate) fn put_damaged<S: Sink>(sink: &mut S, place: u64) -> Result<(), Failed>
     ensures { PutsText (S.took sink.old) (S.took sink.new) (S.faults sink.old) (S.faults sink.new) (damaged_text place) result }
 {
-    put_one(sink, "damaged: block=", place, "\n")
+    put_one(sink, "damaged: block=", place)
 }
 
 /// Puts the numbers of a volume that was made, and what stands before its identifier.
@@ -264,11 +299,13 @@ fn put_finding<S: Sink>(sink: &mut S, finding: Finding) -> Result<(), Failed>
 fn put_part<S: Sink>(sink: &mut S, part: u8, place: u64) -> Result<(), Failed>
     ensures { PutsText (S.took sink.old) (S.took sink.new) (S.faults sink.old) (S.faults sink.new) (finding_text (Finding.Part part place)) result }
 {
-    let numbers = [
-        ("damaged: part ", Number::Decimal(part as u64)),
-        (" at ", Number::Decimal(place)),
-    ];
-    put_line(sink, &numbers, "\n")
+    put_two(
+        sink,
+        "damaged: part ",
+        Number::Decimal(part as u64),
+        " at ",
+        Number::Decimal(place),
+    )
 }
 
 /// Puts the line of a broken law.
@@ -289,7 +326,7 @@ fn put_summary<S: Sink>(sink: &mut S, summary: Summary) -> Result<(), Failed>
     ensures { PutsText (S.took sink.old) (S.took sink.new) (S.faults sink.old) (S.faults sink.new) (summary_text summary) result }
 {
     match summary {
-        Summary::Backups { count } => put_one(sink, "repaired: backups=", count, "\n"),
+        Summary::Backups { count } => put_one(sink, "repaired: backups=", count),
         Summary::Rebuilt {
             blocks,
             kept,

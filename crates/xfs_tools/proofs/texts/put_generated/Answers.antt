@@ -8,4 +8,4 @@ pub returns : goal.returns
 returns g c =
     puts_as _ _ _ _ _ _ _
     (ap (λ (n : ℕ). line ((codes "generated: files=", Decimal c.args.files) ∷ (codes " directories=", Decimal n) ∷ []) (codes "\n")) (sym c.directory_count.ensures))
-    c.put_line.ensures
+    c.put_two.ensures

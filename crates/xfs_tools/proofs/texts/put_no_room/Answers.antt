@@ -13,7 +13,7 @@ pub returns-in-File : goal.returns-in-File
 returns-in-File g c = puts_as _ _ _ _ _ _ _ (ap no_room_text c.in-File.is) c.put_one-in-File.ensures
 
 pub returns-in-Chunk : goal.returns-in-Chunk
-returns-in-Chunk g c = puts_as _ _ _ _ _ _ _ (ap no_room_text c.in-Chunk.is) c.put_line.ensures
+returns-in-Chunk g c = puts_as _ _ _ _ _ _ _ (ap no_room_text c.in-Chunk.is) c.put_plain.ensures
 
 pub returns-in-LostFound : goal.returns-in-LostFound
-returns-in-LostFound g c = puts_as _ _ _ _ _ _ _ (ap no_room_text c.in-LostFound.is) c.put_line-in-LostFound.ensures
+returns-in-LostFound g c = puts_as _ _ _ _ _ _ _ (ap no_room_text c.in-LostFound.is) c.put_plain-in-LostFound.ensures
