@@ -1,7 +1,7 @@
 //! The words of a command line.
 
-ghost use Rattle.std.specs.Prelude.{◌≡◌, ℕ, ◌≤◌, Option, Some, None, IsTrue, List, ◌∷◌, codes, length};
-ghost use Rattle.xfs_options.specs.Words.{Words};
+ghost use Rattle.std.specs.Prelude.{◌≡◌, ℕ, ◌≤◌, Option, Some, None, IsTrue, List, ◌∷◌, bytes_eq, codes, length};
+ghost use Rattle.xfs_options.specs.Words.{Words, is_option};
 ghost use Rattle.xfs_tools.specs.CommandLine.{after_letter_w, after_repair_letters, after_repair_option, after_repair_word, after_workers, after_repair_words, is_debugger, is_maker, judged, options_of_words, OffendsRepairFirst, no_options, repair_reading, repair_call, workers_of};
 
 use xfs_disk::Word;
@@ -153,13 +153,13 @@ impl RepairWords {
     fn after_option(self, at: usize, word: &[u8]) -> Reading
         ensures { result ≡ after_repair_option at word.now self }
     {
-        if word == b"--".as_slice() {
+        if ends_options(word) {
             return Reading::Image(self);
         }
-        match word {
-            [b'-', letters @ ..] if !letters.is_empty() => self.after_letters(at, letters),
-            _ => Reading::Complete(self),
+        if is_option(word) {
+            return self.after_letters(at, &word[1..]);
         }
+        Reading::Complete(self)
     }
 
     /// What is read after the letters of an option word.
@@ -199,6 +199,24 @@ impl RepairWords {
             Some(workers) => Reading::Options(RepairWords { workers, ..self }),
             None => Reading::Offended(at),
         }
+    }
+}
+
+/// Whether a word says that the image follows.
+fn ends_options(word: &[u8]) -> bool
+    ensures { result ≡ bytes_eq word.now (codes "--") }
+{
+    word == b"--".as_slice()
+}
+
+/// Whether a word is `-` and letters.
+fn is_option(word: &[u8]) -> bool
+    ensures value { result ≡ is_option word.now }
+    ensures some { IsTrue result → 1 ≤ length word.now }
+{
+    match word {
+        [b'-', _, ..] => true,
+        _ => false,
     }
 }
 
