@@ -56,6 +56,7 @@ pub fn gather<R: Threads + Sync, D: Disk, G: Gate, L: Ledger>(
     };
     let count = count_inodes(g, seen.clusters.as_slice());
     if count > MOST_INODES {
+        drop(seen);
         return Err(ScanFault::TooLarge {
             what: INODES,
             count,
@@ -95,7 +96,10 @@ fn gather_files<R: Threads + Sync, D: Disk, G: Gate, L: Ledger>(
         steps,
     ) {
         Ok(scanned) => gather_scanned(alloc, g, disk, seen, scanned, steps),
-        Err(error) => Err(answer(error)),
+        Err(error) => {
+            drop(seen);
+            Err(answer(error))
+        }
     }
 }
 
@@ -121,7 +125,11 @@ fn gather_scanned<D: Disk, L: Ledger>(
 {
     match prepare(alloc, g, disk, &scanned.inodes, steps) {
         Ok(prepared) => gather_prepared(alloc, g, disk, seen, scanned, prepared, steps),
-        Err(fault) => Err(fault),
+        Err(fault) => {
+            drop(seen);
+            drop(scanned);
+            Err(fault)
+        }
     }
 }
 
@@ -239,7 +247,13 @@ fn gather_prepared<D: Disk, L: Ledger>(
             Ok(evidence) => Ok(evidence),
             Err(NoMemory) => Err(ScanFault::NoMemory),
         },
-        Err(error) => Err(answer(error)),
+        Err(error) => {
+            drop(clusters);
+            drop(slots);
+            drop(bare);
+            drop(trees);
+            Err(answer(error))
+        }
     }
 }
 

@@ -105,7 +105,11 @@ fn see_with_groups<D: Disk, L: Ledger>(
         Ok(clusters) => see_with_clusters(
             alloc, g, disk, groups, &clusters, scanned, facts, inodes, log, steps,
         ),
-        Err(NoMemory) => Err(PartFault::NoMemory),
+        Err(NoMemory) => {
+            drop(groups);
+            drop(inodes);
+            Err(PartFault::NoMemory)
+        }
     }
 }
 
@@ -159,7 +163,10 @@ fn see_with_clusters<D: Disk, L: Ledger>(
     }
     match see_recorded(alloc, g, disk, groups, clusters, log, steps) {
         Ok(view) => Ok(apart(inodes, view)),
-        Err(fault) => Err(fault),
+        Err(fault) => {
+            drop(inodes);
+            Err(fault)
+        }
     }
 }
 
@@ -191,12 +198,19 @@ fn see_same<D: Disk, L: Ledger>(
     ensures reads { D.reads disk.new + steps.old ≤ D.reads disk.old + steps.new }
 {
     match inodes.unread {
-        Some(place) => return Ok(apart(inodes, Err(missing(place)))),
+        Some(place) => {
+            drop(groups);
+            return Ok(apart(inodes, Err(missing(place))));
+        }
         None => {}
     }
     let known = match numbers_of(alloc, facts) {
         Ok(known) => known,
-        Err(NoMemory) => return Err(PartFault::NoMemory),
+        Err(NoMemory) => {
+            drop(groups);
+            drop(inodes);
+            return Err(PartFault::NoMemory);
+        }
     };
     match build_view(alloc, g, disk, groups, clusters, &known, inodes, log, steps) {
         Ok(catalog) => Ok(Seen::Whole(catalog)),
@@ -227,10 +241,17 @@ fn see_recorded<D: Disk, L: Ledger>(
 {
     let inodes = match see_clusters(alloc, g, disk, clusters, steps) {
         Ok(inodes) => inodes,
-        Err(fault) => return Err(fault),
+        Err(fault) => {
+            drop(groups);
+            return Err(fault);
+        }
     };
     match inodes.unread {
-        Some(place) => return Ok(Err(missing(place))),
+        Some(place) => {
+            drop(groups);
+            drop(inodes);
+            return Ok(Err(missing(place)));
+        }
         None => {}
     }
     match build_view(alloc, g, disk, groups, clusters, &[], inodes, log, steps) {
@@ -310,12 +331,25 @@ fn build_view<D: Disk, L: Ledger>(
         steps,
     ) {
         Ok(lsns) => lsns,
-        Err(JournalFault::ReadFault) => return Err(PartFault::ReadFault),
-        Err(JournalFault::NoMemory) => return Err(PartFault::NoMemory),
+        Err(JournalFault::ReadFault) => {
+            drop(groups);
+            drop(inodes);
+            return Err(PartFault::ReadFault);
+        }
+        Err(JournalFault::NoMemory) => {
+            drop(groups);
+            drop(inodes);
+            return Err(PartFault::NoMemory);
+        }
     };
     let counts = match read_counts(g, disk, steps) {
         Ok(counts) => counts,
-        Err(Failed) => return Err(PartFault::ReadFault),
+        Err(Failed) => {
+            drop(groups);
+            drop(inodes);
+            drop(lsns);
+            return Err(PartFault::ReadFault);
+        }
     };
     Ok(Catalog {
         geometry: *g,
@@ -391,7 +425,10 @@ fn see_clusters<D: Disk, L: Ledger>(
     let mut inodes = Inodes::new(alloc);
     match look_at(alloc, g, disk, &blocks, &mut inodes, steps) {
         Ok(()) => Ok(inodes),
-        Err(fault) => Err(fault),
+        Err(fault) => {
+            drop(inodes);
+            Err(fault)
+        }
     }
 }
 
