@@ -5,7 +5,7 @@ use std::fmt;
 use xfs_disk::{Failed, NoMemory};
 
 /// Why a line can't be done.
-#[derive(Clone, Copy, PartialEq, Eq)]
+#[derive(Clone, Copy)]
 pub enum Refusal {
     /// No line begins with this word.
     Unknown,
