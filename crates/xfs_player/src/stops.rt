@@ -39,40 +39,109 @@ pub fn stop_by_steps(
 ) -> Result<Stops, Refusal> {
     let mut whole = disk.copy(alloc)?;
     drop(Call::make(rt, alloc, &mut whole, words, given)?);
+    let before = disk.copy(alloc)?;
+    let stops = stop_in_turn(rt, alloc, disk, step, words, given, &whole, before);
+    drop(whole);
+    stops
+}
+
+/// The same, where it is known what the whole call leaves.
+fn stop_in_turn(
+    rt: &(impl Threads + Sync),
+    alloc: Global,
+    disk: &CaseDisk,
+    step: u64,
+    words: &str,
+    given: &Surroundings,
+    whole: &CaseDisk,
+    before: CaseDisk,
+) -> Result<Stops, Refusal> {
     let writes = whole.writes();
-    let mut before = disk.copy(alloc)?;
+    let mut last = before;
     let (mut done, mut place) = (0, 0);
     for _ in 0..writes {
         if done >= writes {
             break;
         }
         let written = writes.min(done.saturating_add(step));
-        let mut stopped = disk.copy(alloc)?;
-        stopped.stop_after(written);
-        let call = Call::make(rt, alloc, &mut stopped, words, given)?;
-        let changes = changes_between(before.image(), stopped.image(), whole.image());
-        let in_order = is_in_order(
-            changes,
-            written.saturating_sub(done),
-            place,
-            written == writes,
+        let stopped = stop_once(
+            rt, alloc, disk, written, words, given, whole, &last, done, place,
         );
-        if !in_order || !call.tells_fault(alloc, written)? {
-            return Ok(Stops {
-                writes,
-                wrong: Some(written),
-            });
+        match stopped {
+            Ok(Some(next)) => {
+                last = next.disk;
+                place = next.place;
+                done = written;
+            }
+            Ok(None) => {
+                return Ok(Stops {
+                    writes,
+                    wrong: Some(written),
+                });
+            }
+            Err(refusal) => return Err(refusal),
         }
-        place = highest(changes, place);
-        done = written;
-        before = stopped;
     }
-    let wrong = if before.image() == whole.image() {
+    let wrong = wrong_at_end(&last, whole);
+    drop(last);
+    Ok(Stops { writes, wrong })
+}
+
+/// A copy of a disk on which a call stopped, and the highest block that was written so far.
+#[derive(Drop)]
+struct StoppedDisk {
+    disk: CaseDisk,
+    place: usize,
+}
+
+/// Makes the call on a copy that stops after so many writes; `None` where it leaves or tells what it must not.
+fn stop_once(
+    rt: &(impl Threads + Sync),
+    alloc: Global,
+    disk: &CaseDisk,
+    written: u64,
+    words: &str,
+    given: &Surroundings,
+    whole: &CaseDisk,
+    last: &CaseDisk,
+    done: u64,
+    place: usize,
+) -> Result<Option<StoppedDisk>, Refusal> {
+    let mut stopped = disk.copy(alloc)?;
+    stopped.stop_after(written);
+    let told = tells_stop(rt, alloc, &mut stopped, written, words, given)?;
+    let changes = changes_between(last.image(), stopped.image(), whole.image());
+    let at_end = written == whole.writes();
+    if told && is_in_order(changes, written.saturating_sub(done), place, at_end) {
+        Ok(Some(StoppedDisk {
+            disk: stopped,
+            place: highest(changes, place),
+        }))
+    } else {
+        Ok(None)
+    }
+}
+
+/// Makes the call, and says whether it tells so many written blocks.
+fn tells_stop(
+    rt: &(impl Threads + Sync),
+    alloc: Global,
+    stopped: &mut CaseDisk,
+    written: u64,
+    words: &str,
+    given: &Surroundings,
+) -> Result<bool, Refusal> {
+    let call = Call::make(rt, alloc, stopped, words, given)?;
+    Ok(call.tells_fault(alloc, written)?)
+}
+
+/// The number of writes, where all of them did not leave what the whole call does.
+fn wrong_at_end(last: &CaseDisk, whole: &CaseDisk) -> Option<u64> {
+    if last.image() == whole.image() {
         None
     } else {
-        Some(writes)
-    };
-    Ok(Stops { writes, wrong })
+        Some(whole.writes())
+    }
 }
 
 impl Changes {
