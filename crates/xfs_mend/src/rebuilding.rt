@@ -129,13 +129,23 @@ fn rename<R: Threads + Sync, D: Disk, G: Gate, L: Ledger>(
     ensures possible { (o : Asked) → o.check ≡ false → CanCome o result }
     ensures ends { Ends D.size D.holds D.faults D.write_faults D.writes D.tells_stops D.moment D.may_leave D.left_since disk.old disk.new result }
 {
-    match plan_names(rt, alloc, disk, chosen, due, stamp, gate, steps) {
+    let planned = plan_names(rt, alloc, disk, chosen, due, stamp, gate, steps);
+    match planned {
         Ok(Renamed { rebuilt, orphans }) => write_rebuilt(disk, rebuilt, orphans),
-        Err(RebuildFault::NoRoom(what)) => Outcome::NoRoom(what),
-        Err(RebuildFault::ReadFault) => Outcome::ReadFault {
-            faults: disk.faults(),
-        },
-        Err(RebuildFault::Names(_) | RebuildFault::NoMemory) => Outcome::NoMemory,
+        Err(RebuildFault::NoRoom(what)) => {
+            drop(planned);
+            Outcome::NoRoom(what)
+        }
+        Err(RebuildFault::ReadFault) => {
+            drop(planned);
+            Outcome::ReadFault {
+                faults: disk.faults(),
+            }
+        }
+        Err(RebuildFault::Names(_) | RebuildFault::NoMemory) => {
+            drop(planned);
+            Outcome::NoMemory
+        }
     }
 }
 

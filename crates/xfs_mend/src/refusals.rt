@@ -96,6 +96,7 @@ fn unless_asked(options: &RepairOptions, evidence: Evidence) -> Result<Evidence,
     ensures { IsUnless (asks_log (repair_asked options.now) && is_dirty evidence.log) evidence result }
 {
     if is_in_the_way(options, &evidence) {
+        drop(evidence);
         Err(Outcome::DirtyLog)
     } else {
         Ok(evidence)

@@ -159,7 +159,10 @@ fn repair_seen<R: Threads + Sync, D: Disk, G: Gate>(
             rt, alloc, disk, options, chosen, found, evidence, stamp, gate,
         ),
         Ok(None) => Outcome::Clean,
-        Err(fault) => answer_fault(disk, fault),
+        Err(fault) => {
+            drop(evidence);
+            answer_fault(disk, fault)
+        }
     }
 }
 
@@ -221,6 +224,7 @@ fn answer_found<R: Threads + Sync, D: Disk, G: Gate>(
     if asks_rebuild(options, &found) {
         rebuild(rt, alloc, disk, chosen, evidence, stamp, gate)
     } else {
+        drop(evidence);
         answer_kept(alloc, disk, options, chosen, found, stamp)
     }
 }

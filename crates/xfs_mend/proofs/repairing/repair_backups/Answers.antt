@@ -150,3 +150,18 @@ returns-in-Err-NoMemory-clause-due g c = λ image told. tt
 
 pub returns-in-Err-NoMemory-clause-possible : goal.returns-in-Err-NoMemory-clause-possible
 returns-in-Err-NoMemory-clause-possible g c = λ o repairs. tt
+
+pub returns-in-Ok-write_parts-clause-possible : goal.returns-in-Ok-write_parts-clause-possible
+returns-in-Ok-write_parts-clause-possible g c = λ o repairs. repairs
+
+pub returns-clause-possible : goal.returns-clause-possible
+returns-clause-possible g c = λ o repairs. repairs
+
+pub plan_backups-requires-clause-sector : goal.plan_backups-requires-clause-sector
+plan_backups-requires-clause-sector g c = c.requires.sector
+
+pub plan_backups-requires-clause-stated : goal.plan_backups-requires-clause-stated
+plan_backups-requires-clause-stated g c = c.requires.stated
+
+pub plan_backups-requires-clause-inside : goal.plan_backups-requires-clause-inside
+plan_backups-requires-clause-inside g c = c.requires.inside
