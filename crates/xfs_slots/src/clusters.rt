@@ -142,7 +142,10 @@ fn take_part<D: Disk, L: Ledger>(
     let SlotPart { slot, fact, file } = known;
     match push_fact(fact, facts) {
         Ok(()) => {}
-        Err(NoMemory) => return Err(PartFault::NoMemory),
+        Err(NoMemory) => {
+            drop(file);
+            return Err(PartFault::NoMemory);
+        }
     }
     let ino = g.inode_of_slot(block, slot);
     let held = part(bytes, SLOT_SIZE * slot as usize, SLOT_SIZE);

@@ -13,7 +13,6 @@ use xfs_geom::{Geometry, InoRec};
 use xfs_volume::GroupRec;
 
 /// The first blocks of the clusters of all chunks.
-#[tactic(auto, unfolding(xfs_image::specs::Files::clusters_of))]
 pub fn clusters_of(alloc: Global, g: &Geometry, groups: &[GroupRec]) -> Result<Vec<u64>, NoMemory>
     requires few { length groups.now ≤ 512 }
     ensures clusters { IfOk result (λ clusters. clusters.items ≡ clusters_of (volume_of g.now) groups.now) }

@@ -112,7 +112,10 @@ fn take_bare<D: Disk, L: Ledger>(
 {
     match note_bare(file.ino, inodes) {
         Ok(()) => take_file(alloc, g, disk, slot, file, inodes, steps),
-        Err(NoMemory) => Err(PartFault::NoMemory),
+        Err(NoMemory) => {
+            drop(file);
+            Err(PartFault::NoMemory)
+        }
     }
 }
 
@@ -146,7 +149,10 @@ fn take_file<D: Disk, L: Ledger>(
 {
     match take_directory(alloc, g, disk, slot, &file, inodes, steps) {
         Ok(()) => {}
-        Err(fault) => return Err(fault),
+        Err(fault) => {
+            drop(file);
+            return Err(fault);
+        }
     }
     match push_file(file, inodes) {
         Ok(()) => Ok(()),

@@ -1,9 +1,10 @@
-use Rattle.std.proofs.Common.{ℕ, ◌≤◌, ◌<◌, List, ◌++◌, length, ap, ◌∙◌, arith}
+use Rattle.std.proofs.Common.{◌^◌, ℕ, ◌≤◌, ◌<◌, List, ◌++◌, length, ap, ◌∙◌, arith, rules}
+use Rattle.std.proofs.lemmas.Result.{IfOk-from_err}
 use Rattle.xfs_geom.specs.declared.records.InoRec.{InoRec}
 use Rattle.xfs_geom.specs.Volumes.{volume_of}
 use Rattle.xfs_volume.specs.declared.groups.GroupRec.{GroupRec}
 use Rattle.xfs_image.specs.Clusters.{chunk_clusters}
-use Rattle.xfs_slots.proofs.Chunks.{group_more}
+use Rattle.xfs_slots.proofs.Chunks.{base_fits, group_base, group_more, groups_done}
 use Rattle.xfs_slots.proofs.recorded.clusters_of.Goals as goal
 
 pub loop-ag-preserved : goal.loop-ag-preserved
@@ -18,3 +19,28 @@ loop-ag-preserved c =
           c.loop-ag.invariant.clusters;
       low = c.in_ok-push_chunks.ensures.low;
     }
+
+pub push_chunks-requires-clause-low : goal.push_chunks-requires-clause-low
+push_chunks-requires-clause-low c = c.loop-ag.invariant.low
+
+pub push_chunks-requires-clause-base : goal.push_chunks-requires-clause-base
+push_chunks-requires-clause-base c =
+    let low : c.args.g.now.agblocks < 2 ^ 32 = search rules in
+    group_base c.loop-ag.ag (length c.args.groups.now) c.args.g.now.agblocks c.loop-ag-test.true c.requires.few low
+
+pub overflow_mul-ag : goal.overflow_mul-ag
+overflow_mul-ag c =
+    let low : c.args.g.now.agblocks < 2 ^ 32 = search rules in
+    base_fits c.loop-ag.ag (length c.args.groups.now) c.args.g.now.agblocks c.loop-ag-test.true c.requires.few low
+
+pub returns-in_err-push_chunks : goal.returns-in_err-push_chunks
+returns-in_err-push_chunks c = record {
+  clusters = IfOk-from_err c.from_residual.result _ c.from_residual.ensures.0;
+  low = IfOk-from_err c.from_residual.result _ c.from_residual.ensures.0;
+}
+
+pub returns : goal.returns
+returns c = record {
+  clusters = groups_done (volume_of c.args.g.now) c.args.groups.now c.loop-ag.ag c.loop-ag.clusters.items (omega arith) c.loop-ag.invariant.clusters;
+  low = c.loop-ag.invariant.low;
+}
