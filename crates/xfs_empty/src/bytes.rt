@@ -27,12 +27,13 @@ pub fn empty_bytes(
 {
     let places = list_places(alloc, g)?;
     let old = BlockList::zeros(alloc, places.len())?;
+    let slots = list_slots(alloc, g, stamp)?;
     Ok(Bytes {
         sector: *sector,
         places: Records::from_vec(places),
         old,
         objects: BlockList::make(alloc),
-        slots: Records::from_vec(list_slots(alloc, g, stamp)?),
+        slots: Records::from_vec(slots),
         cycle: Some(1),
         stamp: *stamp,
     })

@@ -46,7 +46,11 @@ pub fn plan_empty<R: Threads + Sync>(
     ensures cause { IfErr result (λ fault. (fault ≡ PlaceFault.NoMemory) ⊎ ((what : Unplaced) × (fault ≡ PlaceFault.NoRoom what) × FindsNoRoom (empty_wanted g.now) what)) }
 {
     match empty_wanted(alloc, g) {
-        Ok(wanted) => plan_made(rt, alloc, g, sector, stamp, &wanted),
+        Ok(wanted) => {
+            let planned = plan_made(rt, alloc, g, sector, stamp, &wanted);
+            drop(wanted);
+            planned
+        }
         Err(NoMemory) => Err(PlaceFault::NoMemory),
     }
 }
@@ -71,7 +75,11 @@ fn plan_made<R: Threads + Sync>(
     ensures cause { IfErr result (λ fault. (fault ≡ PlaceFault.NoMemory) ⊎ ((what : Unplaced) × (fault ≡ PlaceFault.NoRoom what) × FindsNoRoom (empty_wanted g.now) what)) }
 {
     match empty_bytes(alloc, g, sector, stamp) {
-        Ok(bytes) => plan_wanted(rt, alloc, wanted, &bytes),
+        Ok(bytes) => {
+            let planned = plan_wanted(rt, alloc, wanted, &bytes);
+            drop(bytes);
+            planned
+        }
         Err(NoMemory) => Err(PlaceFault::NoMemory),
     }
 }
@@ -95,6 +103,14 @@ fn plan_wanted<R: Threads + Sync>(
     chunks_are_few(wanted);
     let placed = place(alloc, wanted)?;
     placed_is_ready(wanted, &placed, bytes);
-    let plan = render(rt, alloc, wanted, &placed, bytes, WORKERS, &NoGate)?;
-    Ok(plan)
+    match render(rt, alloc, wanted, &placed, bytes, WORKERS, &NoGate) {
+        Ok(plan) => {
+            drop(placed);
+            Ok(plan)
+        }
+        Err(NoMemory) => {
+            drop(placed);
+            Err(PlaceFault::NoMemory)
+        }
+    }
 }

@@ -31,16 +31,18 @@ pub fn empty_wanted(alloc: Global, g: &Geometry) -> Result<Wanted, NoMemory>
         owner: INODES,
         offset_word: 0,
     };
+    let inodes = list_inodes(alloc, g.agcount)?;
+    let first = vec![in alloc; chunk]?;
     Ok(Wanted {
         geometry: *g,
         taken: Records::from_vec(Vec::new(alloc)),
-        new: Records::from_vec(vec![in alloc; chunk]?),
+        new: Records::from_vec(first),
         reserved: Records::from_vec(Vec::new(alloc)),
         from: BEHIND_CHUNK,
         spared_from: Records::from_vec(Vec::new(alloc)),
         takes_spared: false,
         objects: Records::from_vec(Vec::new(alloc)),
-        inodes: Records::from_vec(list_inodes(alloc, g.agcount)?),
+        inodes: Records::from_vec(inodes),
     })
 }
 

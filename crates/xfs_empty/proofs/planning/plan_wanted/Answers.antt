@@ -5,8 +5,8 @@ use Rattle.xfs_empty.proofs.planning.plan_wanted.Goals as goal
 pub place-requires-clause-asks : goal.place-requires-clause-asks
 place-requires-clause-asks g c = c.requires.writable.asks
 
-pub returns-clause-rendered : goal.returns-clause-rendered
-returns-clause-rendered g c =
+pub returns-in-Ok-clause-rendered : goal.returns-in-Ok-clause-rendered
+returns-in-Ok-clause-rendered g c =
     record {
       placed = c.in_ok-placed.placed;
       stands = record {
@@ -16,18 +16,18 @@ returns-clause-rendered g c =
         pool = c.in_ok-placed.ensures.pool;
         counts' = c.in_ok-placed.ensures.counts;
       };
-      rendered = c.in_ok-plan.ensures;
+      rendered = c.in-Ok.ensures;
     }
 
-pub returns-clause-inside : goal.returns-clause-inside
-returns-clause-inside g c =
-    planned_low c.args.wanted.now c.in_ok-placed.placed c.args.bytes.now c.in_ok-plan.plan c.placed_is_ready.ensures c.in_ok-plan.ensures
+pub returns-in-Ok-clause-inside : goal.returns-in-Ok-clause-inside
+returns-in-Ok-clause-inside g c =
+    planned_low c.args.wanted.now c.in_ok-placed.placed c.args.bytes.now c.in-Ok.plan c.placed_is_ready.ensures c.in-Ok.ensures
 
-pub returns-clause-held : goal.returns-clause-held
-returns-clause-held g c = c.in_ok-plan.ensures.inside
+pub returns-in-Ok-clause-held : goal.returns-in-Ok-clause-held
+returns-in-Ok-clause-held g c = c.in-Ok.ensures.inside
 
-pub returns-clause-room : goal.returns-clause-room
-returns-clause-room g c =
+pub returns-in-Ok-clause-room : goal.returns-in-Ok-clause-room
+returns-in-Ok-clause-room g c =
     has_room c.args.wanted.now c.in_ok-placed.placed
     (record {
       runs' = c.in_ok-placed.ensures.runs;
