@@ -13,3 +13,4 @@ pub mod Parts
 pub mod Volumes
 pub mod Marking
 pub mod Roots
+pub mod Planned

@@ -1,7 +1,7 @@
 -- The rows of a plan: what holds of its blocks holds of them, in any order.
-use Rattle.std.proofs.Common.{◌≡◌, ℕ, ◌<◌, List, length, get_or, arith, sym, subst, ap, ◌∙◌}
+use Rattle.std.proofs.Common.{◌≡◌, ℕ, ◌-◌, ◌<◌, List, [], ◌∷◌, length, take, drop, min, get_or, arith, refl, sym, subst, ap, ◌∙◌}
 use Rattle.std.specs.List.{All}
-use Rattle.std.proofs.lemmas.List.{get_or-map, length-map, map-append}
+use Rattle.std.proofs.lemmas.List.{get_or-map, length-map, map-append, take_all}
 use Rattle.std.proofs.lemmas.List.Sorted.{All-permutation}
 use Rattle.xfs_render.specs.Drafts.{AreInBank, row_places}
 use Rattle.xfs_render.specs.Plans.{plan_rows, planned}
@@ -29,3 +29,13 @@ all_at P plan rows are all =
 -- what holds of the indices
 pub all_index : (plan : Plan) (rows : List Row) → AreRowsOfPlan plan rows → AreInBank (plan_rows plan) plan.bank → AreInBank rows plan.bank
 all_index plan rows are inside = All-permutation (λ (r : Row). r.index < length plan.bank) (plan_rows plan) rows are.all inside
+
+-- the rows from the second on
+pub behind_first : (rows : List Row) (m : ℕ) → m ≡ min (length rows) 1 → take (length rows - m) (drop m rows) ≡ drop 1 rows
+behind_first [] m is =
+    let none : List Row = [] in
+    let same : take 0 none ≡ none = refl in
+    subst (λ (n : ℕ). take (0 - n) (drop n none) ≡ none) (sym is) same
+behind_first (r ∷ rs) m is =
+    let one : m ≡ 1 = omega (arith, is) in
+    subst (λ (n : ℕ). take (length (r ∷ rs) - n) (drop n (r ∷ rs)) ≡ rs) (sym one) (take_all (length (r ∷ rs) - 1) rs (omega arith))

@@ -74,8 +74,14 @@ pub fn prepare<R: Threads + Sync, D: Disk, L: Library>(
         Err(outcome) => return Err(outcome),
     };
     match plan_volume(rt, alloc, &geometry, options.label.bytes(), stamp, &asked) {
-        Ok(plan) => Ok(Prepared { geometry, plan }),
-        Err(fault) => Err(place_outcome(fault)),
+        Ok(plan) => {
+            drop(asked);
+            Ok(Prepared { geometry, plan })
+        }
+        Err(fault) => {
+            drop(asked);
+            Err(place_outcome(fault))
+        }
     }
 }
 

@@ -70,8 +70,15 @@ pub fn make<R: Threads + Sync, D: Disk, L: Library>(
         Err(outcome) => return outcome,
     };
     match put_plan(alloc, disk, &volume.plan) {
-        Ok(()) => MakeOutcome::Made(summary_of(&volume.geometry)),
-        Err(fault) => put_outcome(fault),
+        Ok(()) => {
+            let summary = summary_of(&volume.geometry);
+            drop(volume);
+            MakeOutcome::Made(summary)
+        }
+        Err(fault) => {
+            drop(volume);
+            put_outcome(fault)
+        }
     }
 }
 

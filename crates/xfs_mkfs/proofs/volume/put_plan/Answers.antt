@@ -1,4 +1,4 @@
-use Rattle.std.proofs.Common.{ℕ, ◌≡◌, ◌+◌, ◌<◌, List, length, ap, ap₂, ◌∙◌, arith}
+use Rattle.std.proofs.Common.{ℕ, ◌≡◌, ◌+◌, ◌<◌, List, length, ap, ap₂, ◌∙◌, arith, inl, refl}
 use Rattle.xfs_writing.specs.declared.rows.Row.{Row}
 use Rattle.xfs_mkfs.specs.Order.{first_part, last_part}
 use Rattle.xfs_mkfs.proofs.Parts.{all_first, all_last, count_rows, counts_all, most_planned, stopped_put}
@@ -60,3 +60,20 @@ returns-clause-stops g c = λ tells image told t stopped low left.
     let two : c.last_part.result.now ≡ last_part rows = c.last_part.ensures ∙ ap last_part c.as_slice-rows.ensures.value in
     stopped_put c.args.plan.now rows c.first_part.result.now c.last_part.result.now c.in-Ok.ensures one two image stopped
     (g.D.Disk.left_since c.args.disk.now t stopped) (c.in-Err-write_parts.ensures.stops tells image told t stopped low left)
+
+pub returns-in-Err : goal.returns-in-Err
+returns-in-Err g c =
+    record {
+      done = tt;
+      failed = λ image told. told;
+      untouched = λ is. refl;
+      counted = refl;
+      size = refl;
+      faults = refl;
+      reads = refl;
+      cause = omega arith;
+      kept = tt;
+      stops = λ tells image told t stopped low left. inl left;
+      later = λ tells. omega arith;
+      tells = λ tells. tells;
+    }
