@@ -230,3 +230,18 @@ returns-in-Err-clause-stops g c =
     passed_more g.D.Disk.size g.D.Disk.holds g.D.Disk.faults g.D.Disk.write_faults g.D.Disk.reads g.D.Disk.writes g.D.Disk.tells_stops g.D.Disk.moment g.D.Disk.may_leave g.D.Disk.left_since v leave lines image (may_write leave) i _ c.args.disk.now c.loop-finished.disk c.run_and_put.new.disk
     c.loop-finished.invariant.run (c.loop-finished.invariant.passed image told) (c.in-Err.ensures.passes r.image at.image_is)
     (next_image v leave lines image i c.word_at-line.result.now [] s (g.D.Disk.holds c.loop-finished.disk) (g.D.Disk.writes c.args.disk.now) (g.D.Disk.writes c.loop-finished.disk) c.loop-finished-test.true same at)
+
+pub returns-then-is_quit-clause-ran : goal.returns-then-is_quit-clause-ran
+returns-then-is_quit-clause-ran g c = tt
+
+pub returns-clause-ran : goal.returns-clause-ran
+returns-clause-ran g c = tt
+
+pub returns-then-is_quit-clause-cause : goal.returns-then-is_quit-clause-cause
+returns-then-is_quit-clause-cause g c = λ takes takes_now. tt
+
+pub returns-clause-cause : goal.returns-clause-cause
+returns-clause-cause g c = λ takes takes_now. tt
+
+pub returns-clause-appends : goal.returns-clause-appends
+returns-clause-appends g c = c.loop-finished.invariant.appends

@@ -1,6 +1,9 @@
-use Rattle.std.proofs.Common.{◌≡◌, ◌∙◌, ap, subst, sym, ℕ, List, length, drop}
+use Rattle.xfs_shell.proofs.Settling.{still_passes}
+use Rattle.xfs_disk.proofs.Reading.{reads_none}
+use Rattle.std.specs.Prelude.{IfSome}
+use Rattle.std.proofs.Common.{◌≡◌, ◌∙◌, ap, subst, sym, ℕ, List, length, drop, Option, arith, inl}
 use Rattle.xfs_geom.specs.Volumes.{volume_of}
-use Rattle.xfs_commands.specs.Commands.{Session, session_of}
+use Rattle.xfs_commands.specs.Commands.{Session, session_of, IsSectorPlace}
 use Rattle.xfs_shell.specs.Running.{attempts, block_at_place, image_after, is_quit_words, pushes_in, runs_first}
 use Rattle.xfs_commands.specs.Cursors.{pushed, settled_session}
 use Rattle.xfs_shell.specs.Sessions.{IsRunCommand, LeavesAtStop}
@@ -112,3 +115,51 @@ returns-in-Err-run_command-clause-passes g c =
     in
     subst (λ (next : Image). Passes g.D.Disk.holds g.D.Disk.tells_stops g.D.Disk.moment g.D.Disk.may_leave g.D.Disk.left_since image next c.args.disk.now c.run_command.new.disk) due
     (c.in-Err-run_command.ensures.passes image told)
+
+pub returns-in-Err-clause-within : goal.returns-in-Err-clause-within
+returns-in-Err-clause-within g c =
+    let dblocks = c.args.geometry.now.dblocks in
+    let here = subst (λ (o : Option ObjectPlace). IfSome o (IsSectorPlace dblocks)) c.requires.place c.requires.within.at_is in
+    c.in-Err.ensures.within dblocks c.requires.within here
+
+pub returns-in-Err-clause-outcome : goal.returns-in-Err-clause-outcome
+returns-in-Err-clause-outcome g c = λ image told. told
+
+pub returns-in-Err-clause-passes : goal.returns-in-Err-clause-passes
+returns-in-Err-clause-passes g c = λ image told. still_passes g.D.Disk.holds g.D.Disk.tells_stops g.D.Disk.moment g.D.Disk.may_leave g.D.Disk.left_since image _ c.args.disk.now
+
+pub returns-in-Err-clause-disk : goal.returns-in-Err-clause-disk
+returns-in-Err-clause-disk g c =
+    inl (record {
+      cause = (omega arith, omega arith);
+      no_write_fault = tt;
+      one_read = omega arith;
+      only_reads = reads_none g.D.Disk.size g.D.Disk.holds g.D.Disk.write_faults g.D.Disk.writes g.D.Disk.tells_stops g.D.Disk.moment g.D.Disk.may_leave g.D.Disk.left_since c.args.disk.now;
+    })
+
+pub returns-in-Err-clause-quits : goal.returns-in-Err-clause-quits
+returns-in-Err-clause-quits g c = λ is. tt
+
+pub run_command-requires-clause-inside : goal.run_command-requires-clause-inside
+run_command-requires-clause-inside g c = c.requires.inside
+
+pub run_command-requires-clause-within : goal.run_command-requires-clause-within
+run_command-requires-clause-within g c =
+    let dblocks = c.args.geometry.now.dblocks in
+    let here = subst (λ (o : Option ObjectPlace). IfSome o (IsSectorPlace dblocks)) c.requires.place c.requires.within.at_is in
+    c.in-Ok.ensures.within dblocks c.requires.within here
+
+pub returns-in-Err-run_command-clause-within : goal.returns-in-Err-run_command-clause-within
+returns-in-Err-run_command-clause-within g c = c.run_command.ensures.within
+
+pub returns-in-Err-run_command-clause-disk : goal.returns-in-Err-run_command-clause-disk
+returns-in-Err-run_command-clause-disk g c = c.in-Err-run_command.ensures.disk
+
+pub returns-in-Err-run_command-clause-quits : goal.returns-in-Err-run_command-clause-quits
+returns-in-Err-run_command-clause-quits g c = λ is. tt
+
+pub returns-clause-within : goal.returns-clause-within
+returns-clause-within g c = c.drop_refused.ensures.within c.args.geometry.now.dblocks c.run_command.ensures.within
+
+pub returns-clause-disk : goal.returns-clause-disk
+returns-clause-disk g c = c.in-Ok-run_command.ensures.disk

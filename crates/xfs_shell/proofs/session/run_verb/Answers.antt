@@ -99,3 +99,21 @@ pub returns-in_default-clause-quits : goal.returns-in_default-clause-quits
 returns-in_default-clause-quits g c =
     alone_quits (volume_of c.args.geometry.now) c.args.verb c.args.name.now c.args.arguments.now (session_of c.args.cursor.now) (session_of c.run_alone.new.cursor) c.args.text.now.items
     c.run_alone.new.text.items c.run_alone.result c.or_stop.result c.or_stop.ensures c.run_alone.ensures.effect
+
+pub run_addr-requires-clause-inside : goal.run_addr-requires-clause-inside
+run_addr-requires-clause-inside g c = c.requires.inside
+
+pub run_addr-requires-clause-within : goal.run_addr-requires-clause-within
+run_addr-requires-clause-within g c = c.requires.within
+
+pub returns-in-Addr-clause-within : goal.returns-in-Addr-clause-within
+returns-in-Addr-clause-within g c = c.run_addr.ensures.within
+
+pub returns-in-Print-clause-within : goal.returns-in-Print-clause-within
+returns-in-Print-clause-within g c = c.requires.within
+
+pub returns-in-Write-clause-within : goal.returns-in-Write-clause-within
+returns-in-Write-clause-within g c = c.requires.within
+
+pub returns-in_default-clause-within : goal.returns-in_default-clause-within
+returns-in_default-clause-within g c = c.run_alone.ensures.within
