@@ -1,4 +1,5 @@
-use Rattle.std.proofs.Common.{◌++◌, ◌∷◌, [], ℕ, List, sym, ◌∙◌, ap, ap₂, arith}
+use Rattle.std.proofs.Common.{◌≡◌, map, ◌++◌, ◌∷◌, [], ℕ, List, sym, ◌∙◌, ap, ap₂, arith}
+use Rattle.std.specs.List.{range_with_len}
 use Rattle.std.proofs.lemmas.List.FromFn.{map-range_with_len_more}
 use Rattle.xfs_kinds.specs.Owners.{headers_owner}
 use Rattle.xfs_geom.specs.Volumes.{volume_of}
@@ -28,3 +29,12 @@ returns-in_err-push c = IfOk-from_err c.from_residual.result _ c.from_residual.e
 
 pub returns-in_err-push-2 : goal.returns-in_err-push-2
 returns-in_err-push-2 c = IfOk-from_err c.from_residual-in_err-push-2.result _ c.from_residual-in_err-push-2.ensures.0
+
+pub start_of_group-requires : goal.start_of_group-requires
+start_of_group-requires c = c.loop-ag-test.true
+
+pub returns : goal.returns
+returns c =
+    let v = volume_of c.args.g.now in
+    let all : c.loop-ag.ag ≡ c.args.g.now.agcount = omega (arith, c.loop-ag-test.false, c.loop-ag.auto.ag-end) in
+    c.loop-ag.invariant ∙ ap (λ (n : ℕ). log_run v ∷ map (header_run v) (range_with_len 0 n)) all

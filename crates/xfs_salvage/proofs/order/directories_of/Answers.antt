@@ -1,6 +1,8 @@
 use Rattle.xfs_salvage.proofs.Directories.{directory_next}
 use borrow.Author.Count.{falls}
-use Rattle.std.proofs.Common.{◌++◌, ℕ, List, filter, length, ap}
+use Rattle.std.proofs.Common.{◌++◌, ℕ, List, filter, length, sym, ◌∙◌, ap}
+use Rattle.std.proofs.lemmas.List.{append-nil, drop_all}
+use Rattle.xfs_volume.specs.declared.files.FileRec.{FileRec}
 use Rattle.std.proofs.lemmas.Result.{IfOk-from_err}
 use Rattle.xfs_volume.specs.Names.{is_directory}
 use Rattle.xfs_naming.specs.Naming.{numbers_of}
@@ -19,3 +21,9 @@ loop-file-smaller c = falls (length c.args.files.now) c.loop-file.file-index c.l
 
 pub returns-in_err-put_directory : goal.returns-in_err-put_directory
 returns-in_err-put_directory c = IfOk-from_err c.from_residual.result _ c.from_residual.ensures.0
+
+pub returns : goal.returns
+returns c =
+    let items = c.loop-file.numbers.items in
+    sym (append-nil items) ∙ ap (λ (fs : List FileRec). items ++ numbers_of (filter is_directory fs)) (sym (drop_all c.loop-file.file-index c.args.files.now c.loop-file-test.false))
+    ∙ c.loop-file.invariant
