@@ -11,3 +11,4 @@ pub mod Deciding
 pub mod OwnEntries
 pub mod Buildable
 pub mod Having
+pub mod Looped

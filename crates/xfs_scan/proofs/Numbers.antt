@@ -1,7 +1,6 @@
 -- The log sequence numbers of the slots of candidate clusters, where the clusters are just these.
-use Rattle.std.proofs.Common.{◌≡◌, ℕ, ◌+◌, ◌<◌, ◌≤◌, List, [], ◌∷◌, ◌++◌, get_or, length, map, take, sym, subst, ap, ◌∙◌}
+use Rattle.std.proofs.Common.{◌≡◌, ℕ, ◌+◌, ◌≤◌, List, map, sym, subst, ap, ◌∙◌}
 use Rattle.std.specs.List.{All, flat_map}
-use Rattle.std.proofs.lemmas.List.{map-append, take_more}
 use Rattle.std.proofs.lemmas.List.Elements.{All-map}
 use Rattle.std.proofs.lemmas.List.Folds.{flat_map-map}
 use Rattle.std.proofs.lemmas.Simd.{map-map}
@@ -42,9 +41,3 @@ pub numbers_kept : (v : Volume) (image : Image) (clusters numbers : List ℕ) (f
 numbers_kept v image clusters numbers facts groups addresses inside are known =
     numbers_are_first v image groups addresses clusters numbers inside
     (are ∙ ap (map (λ (fact : SlotFact). fact.lsn)) known ∙ map-map (λ (fact : SlotFact). fact.lsn) (slot_fact v image) (flat_map (cluster_inodes v) clusters))
-
--- what is made of each, with one more
-pub made_more : {X Y : Type 0} (f : X → Y) (now new : List Y) (xs : List X) (i : ℕ) (d : X) → i < length xs → now ≡ map f (take i xs)
-    → new ≡ now ++ f (get_or xs i d) ∷ [] → new ≡ map f (take (i + 1) xs)
-made_more f now new xs i d inside is pushed =
-    pushed ∙ ap (λ ys. ys ++ f (get_or xs i d) ∷ []) is ∙ sym (map-append f (take i xs) (get_or xs i d ∷ [])) ∙ ap (map f) (sym (take_more xs i d inside))

@@ -74,11 +74,7 @@ pub fn scan<R: Threads + Sync, D: Disk, G: Gate, L: Ledger>(
         steps,
     ) {
         Ok(()) => Ok(ScannedSlots { slots, inodes }),
-        Err(fault) => {
-            drop(slots);
-            drop(inodes);
-            Err(fault)
-        }
+        Err(fault) => Err(fault),
     }
 }
 
@@ -165,23 +161,12 @@ fn scan_round<R: Threads + Sync, D: Disk, G: Gate, L: Ledger>(
     };
     let mut judged = match judge_round(rt, alloc, g, &bank, round, workers, gate) {
         Ok(judged) => judged,
-        Err(NoMemory) => {
-            drop(bank);
-            return Err(PartFault::NoMemory);
-        }
+        Err(NoMemory) => return Err(PartFault::NoMemory),
     };
     match settle_round(rt, alloc, g, disk, &bank, &mut judged, workers, gate, steps) {
         Ok(()) => {}
-        Err(RoundFault::ReadFault) => {
-            drop(bank);
-            drop(judged);
-            return Err(PartFault::ReadFault);
-        }
-        Err(RoundFault::NoMemory) => {
-            drop(bank);
-            drop(judged);
-            return Err(PartFault::NoMemory);
-        }
+        Err(RoundFault::ReadFault) => return Err(PartFault::ReadFault),
+        Err(RoundFault::NoMemory) => return Err(PartFault::NoMemory),
     }
     match take_round(alloc, g, disk, round, &bank, judged, slots, inodes, steps) {
         Ok(()) => Ok(()),
