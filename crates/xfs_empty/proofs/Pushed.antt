@@ -1,6 +1,7 @@
 -- Lists that grow by one item at a time.
-use Rattle.std.proofs.Common.{◌≡◌, ℕ, ◌+◌, ◌<◌, ◌≤◌, ◌⊎◌, inl, inr, List, [], ◌∷◌, ◌++◌, length, map, get_or, arith, refl, sym, subst, ap, ◌∙◌}
+use Rattle.std.proofs.Common.{◌≡◌, ℕ, ◌+◌, ◌*◌, ◌^◌, Fits, w64, ◌<◌, ◌≤◌, ◌⊎◌, inl, inr, List, [], ◌∷◌, ◌++◌, length, map, get_or, arith, refl, sym, subst, ap, ◌∙◌}
 use Rattle.std.specs.List.{range_with_len}
+use Rattle.std.proofs.Math.Nat.{mul-le-mul_left}
 use Rattle.std.proofs.lemmas.Bool.{cases_lt}
 use Rattle.std.proofs.lemmas.List.{get_or-append-add, get_or_append_left}
 use Rattle.std.proofs.lemmas.List.FromFn.{map-range_with_len_more}
@@ -37,3 +38,9 @@ slots_more v s slots new x m ino count each at first pushed i d low = by_case (c
         ap (λ (xs : List SlotWanted). get_or xs i d) pushed ∙ ap (λ (k : ℕ). get_or (slots ++ x ∷ []) k d) there
         ∙ get_or-append-add slots (x ∷ []) 0 d in
         subst (λ (w : SlotWanted). IsFirstSlot v s (128 + i) w) (sym is) (subst (λ (n : ℕ). IsFirstSlot v s n x) number first)
+
+-- a product of two short numbers
+pub product_fits : (a b : ℕ) → a < 2 ^ 32 → b < 2 ^ 32 → Fits w64 (a * b)
+product_fits a b high low =
+    let most : a * b ≤ a * 2 ^ 32 = mul-le-mul_left a (omega (arith, low)) in
+    omega (arith, most, high)
