@@ -12,7 +12,7 @@ use Rattle.xfs_links.specs.declared.records.DecidedNames.{DecidedNames}
 use Rattle.xfs_links.specs.declared.walk.Attached.{Attached}
 use Rattle.xfs_links.specs.Entries.{AreEntries, NodesAscend, is_kept_node, is_directory_number}
 use Rattle.xfs_links.specs.Walk.{attached_parent}
-use Rattle.xfs_links.specs.Connected.{directory_numbers, parents, names_lost_found, attached_directories, kept_entries}
+use Rattle.xfs_links.specs.Connected.{directory_numbers, names_lost_found, attached_directories, kept_entries}
 use Rattle.xfs_links.specs.Together.{lost_directory, is_new, orphans_of, old_lost, adds_lost, entries_together}
 use Rattle.xfs_links.specs.Settled.{by_directory}
 use Rattle.xfs_links.proofs.Ascending.{absent}

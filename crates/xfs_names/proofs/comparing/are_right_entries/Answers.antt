@@ -1,5 +1,5 @@
 use Rattle.std.proofs.Common.{◌&&◌, ◌∙◌, sym, ap, arith, suc, drop, add-one}
-use Rattle.xfs_names.specs.Rebuilt.{is_right_entry, are_right_entries}
+use Rattle.xfs_names.specs.Rebuilt.{are_right_entries}
 use Rattle.xfs_names.proofs.Compared.{not_as_many, right_next, all_right}
 use Rattle.xfs_names.proofs.comparing.are_right_entries.Goals as goal
 
