@@ -1,4 +1,4 @@
-use Rattle.std.proofs.Common.{ℕ, ◌+◌, ◌≤◌, sym, subst, ◌∙◌, arith}
+use Rattle.std.proofs.Common.{ℕ, ◌≤◌, sym, subst, ◌∙◌, arith}
 use Rattle.xfs_disk.proofs.Reading.{reads_on}
 use Rattle.xfs_inode.specs.Named.{IsInodeCause}
 use Rattle.xfs_slots.proofs.Causes.{result_caused}
