@@ -1,7 +1,8 @@
 -- Bytes that are cut into parts, one byte after the other.
-use Rattle.std.proofs.Common.{◌≡◌, ℕ, Bool, true, false, cond, List, [], ◌∷◌, ◌++◌, refl, sym, ◌∙◌, ap, append_assoc}
+use Rattle.std.proofs.Common.{◌≡◌, ℕ, ◌+◌, ◌<◌, ◌≤◌, Bool, true, false, not, ◌==◌, cond, List, [], ◌∷◌, ◌++◌, length, get_or, drop, refl, sym, ◌∙◌, ap, ap₂, append_assoc, arith}
 use Rattle.std.specs.List.{filter, slice_split, onto_first}
-use Rattle.std.proofs.lemmas.List.{append-nil}
+use Rattle.std.proofs.lemmas.Bool.{eqb-true}
+use Rattle.std.proofs.lemmas.List.{append-nil, drop_more}
 use Rattle.xfs_shell.specs.LineParts.{is_cut, is_some, line_parts}
 use Rattle.xfs_shell.specs.declared.line_parts.Cut.{Cut}
 
@@ -77,3 +78,45 @@ pub done_empty : (cut : Cut) (part : List ℕ) → is_some part ≡ false → ah
 done_empty cut part none =
     ap (λ (p : List ℕ). filter is_some (p ∷ [])) (append-nil part)
     ∙ ap (λ (b : Bool). cond b (part ∷ []) []) none
+
+-- one byte more was passed: it belongs to the part
+pub step_grown : (cut : Cut) (parts now : List (List ℕ)) (part grows bytes : List ℕ) (i : ℕ) (cuts : Bool) (due : List (List ℕ)) → i < length bytes
+    → cuts ≡ is_cut cut (get_or bytes i 0) → cuts ≡ false → now ≡ parts → grows ≡ part ++ (get_or bytes i 0 ∷ [])
+    → parts ++ ahead cut part (drop i bytes) ≡ due → now ++ ahead cut grows (drop (i + 1) bytes) ≡ due
+step_grown cut parts now part grows bytes i cuts due low is off same more so_far =
+    ap₂ (λ (ps : List (List ℕ)) (p : List ℕ). ps ++ ahead cut p (drop (i + 1) bytes)) same more
+    ∙ sym (ap (λ (rest : List (List ℕ)). parts ++ rest) (ap (λ (bs : List ℕ). ahead cut part bs) (drop_more bytes i 0 low)
+    ∙ grown cut part (get_or bytes i 0) (drop (i + 1) bytes) (sym is ∙ off)))
+    ∙ so_far
+
+-- it ends the part
+pub step_ended : (cut : Cut) (parts now : List (List ℕ)) (part none bytes : List ℕ) (i : ℕ) (cuts : Bool) (due : List (List ℕ)) → i < length bytes
+    → cuts ≡ is_cut cut (get_or bytes i 0) → cuts ≡ true → is_some part ≡ true → now ≡ parts ++ (part ∷ []) → none ≡ []
+    → parts ++ ahead cut part (drop i bytes) ≡ due → now ++ ahead cut none (drop (i + 1) bytes) ≡ due
+step_ended cut parts now part none bytes i cuts due low is on some more nothing so_far =
+    ap₂ (λ (ps : List (List ℕ)) (p : List ℕ). ps ++ ahead cut p (drop (i + 1) bytes)) more nothing
+    ∙ append_assoc parts (part ∷ []) (ahead cut [] (drop (i + 1) bytes))
+    ∙ sym (ap (λ (rest : List (List ℕ)). parts ++ rest) (ap (λ (bs : List ℕ). ahead cut part bs) (drop_more bytes i 0 low)
+    ∙ ended cut part (get_or bytes i 0) (drop (i + 1) bytes) (sym is ∙ on) some))
+    ∙ so_far
+
+-- no part is begun
+pub step_passed : (cut : Cut) (parts now : List (List ℕ)) (part none bytes : List ℕ) (i : ℕ) (cuts : Bool) (due : List (List ℕ)) → i < length bytes
+    → cuts ≡ is_cut cut (get_or bytes i 0) → cuts ≡ true → part ≡ [] → now ≡ parts → none ≡ part
+    → parts ++ ahead cut part (drop i bytes) ≡ due → now ++ ahead cut none (drop (i + 1) bytes) ≡ due
+step_passed cut parts now part none bytes i cuts due low is on nothing same kept so_far =
+    ap₂ (λ (ps : List (List ℕ)) (p : List ℕ). ps ++ ahead cut p (drop (i + 1) bytes)) same (kept ∙ nothing)
+    ∙ sym (ap (λ (rest : List (List ℕ)). parts ++ rest) (ap (λ (bs : List ℕ). ahead cut part bs) (drop_more bytes i 0 low)
+    ∙ passed cut part (get_or bytes i 0) (drop (i + 1) bytes) (sym is ∙ on) (ap is_some nothing)))
+    ∙ so_far
+
+-- a part has bytes, or none
+pub part_some : (part : List ℕ) (e : Bool) → e ≡ (length part == 0) → e ≡ false → is_some part ≡ true
+part_some part e is off = ap not (sym is ∙ off)
+
+empty_is : (part : List ℕ) → length part ≡ 0 → part ≡ []
+empty_is [] h = refl
+empty_is (b ∷ bs) h = absurd (omega (arith, h))
+
+pub part_none : (part : List ℕ) (e : Bool) → e ≡ (length part == 0) → e ≡ true → part ≡ []
+part_none part e is on = empty_is part (eqb-true (length part) 0 (sym is ∙ on))

@@ -1,6 +1,6 @@
 -- Buffers that are filled from a source.
-use Rattle.std.proofs.Common.{◌≡◌, ℕ, ◌+◌, ◌≤◌, List, ◌++◌, length, take, drop, sym, ◌∙◌, ap, append_assoc, arith}
-use Rattle.std.proofs.lemmas.List.{length-take-le, take-append-drop, take-append-le}
+use Rattle.std.proofs.Common.{◌≡◌, ℕ, ◌+◌, ◌≤◌, List, [], ◌++◌, length, take, drop, sym, ◌∙◌, ap, ap₂, append_assoc, arith}
+use Rattle.std.proofs.lemmas.List.{append-nil, length-append, length-take-le, take_all, take-append-drop, take-append-le}
 use Rattle.std.proofs.Math.Seq.{take-append-add}
 
 -- what was taken stands behind the first bytes
@@ -20,3 +20,19 @@ more_filled left old new rest count n is filled =
     ∙ ap (λ (bytes : List ℕ). take count old ++ bytes) (sym (take-append-drop n rest))
     ∙ sym (append_assoc (take count old) (take n rest) (drop n rest))
     ∙ ap (λ (bytes : List ℕ). bytes ++ drop n rest) (sym filled)
+
+-- nothing more was left
+pub filled_end : (left old new rest : List ℕ) (count n : ℕ) → n ≡ 0 → rest ≡ [] → left ≡ take count old ++ rest → take (count + n) new ≡ take count old ++ take n rest
+    → left ≡ take count new
+filled_end left old new rest count n none nothing is filled =
+    let same : count + 0 ≡ count = omega arith in
+    more_filled left old new rest count n is filled
+    ∙ ap₂ (λ (k : ℕ) (r : List ℕ). take (count + k) new ++ drop k r) none nothing
+    ∙ ap (λ (k : ℕ). take k new ++ []) same
+    ∙ append-nil (take count new)
+
+-- the buffer is full
+pub filled_whole : (left buffer rest : List ℕ) (count : ℕ) → length buffer ≤ count → left ≡ take count buffer ++ rest → length buffer ≤ length left
+filled_whole left buffer rest count full is =
+    let same : left ≡ buffer ++ rest = is ∙ ap (λ (b : List ℕ). b ++ rest) (take_all count buffer full) in
+    omega (arith, ap length same, length-append buffer rest)

@@ -1,5 +1,5 @@
 -- Commands over any disk, one behind the other.
-use Rattle.std.proofs.Common.{◌≡◌, ℕ, suc, ◌+◌, ◌≤◌, Bool, true, false, List, Option, Some, None, Result, Ok, Err, refl, sym, ◌∙◌, ap, inl, inr, subst, arith}
+use Rattle.std.proofs.Common.{◌≡◌, ℕ, suc, ◌+◌, ◌≤◌, Bool, true, false, not, ◌&&◌, List, Option, Some, None, Result, Ok, Err, refl, sym, ◌∙◌, ap, inl, inr, subst, arith}
 use Rattle.std.proofs.lemmas.Bool.{true≢false}
 use Rattle.xfs_disk.specs.Blocks.{Image}
 use Rattle.xfs_disk.specs.Counts.{raised, raised_times}
@@ -37,6 +37,12 @@ HasStopCount writes writes_now stop.NoMemory = writes_now ≡ writes
 abbrev pub HasEndCount : ℕ → ℕ → LineEnd → Type 0
 HasEndCount writes writes_now (end.Stopped stop) = HasStopCount writes writes_now stop
 HasEndCount writes writes_now end.OutputFault = Unit {0}
+
+-- an expert who does not only read may write
+pub may_here : (expert read_only : Bool) → not expert ≡ false → read_only ≡ false → (expert && not read_only) ≡ true
+may_here true false h r = refl
+may_here true true h r = cc
+may_here false read_only h r = cc
 
 module _ {D : Type 0} (size : D → ℕ) (holds : D → Option Image) (faults write_faults reads writes : D → ℕ) (tells_stops : D → Type 0)
     (moment : D → ℕ) (may_leave : D → ℕ → List ℕ → Type 0) (left_since : D → ℕ → Image → Type 0) where
