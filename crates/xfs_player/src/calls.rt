@@ -3,7 +3,7 @@
 use crate::answers::answers;
 use crate::disk::CaseDisk;
 use crate::library::Shelf;
-use crate::numbers::number;
+use crate::numbers::set;
 use crate::refusal::Refusal;
 use std::alloc::{AllocError, Global};
 use std::thread::Threads;
@@ -15,7 +15,7 @@ use xfs_tools::{put_answer, run};
 #[derive(Drop)]
 pub struct Surroundings {
     /// How many bytes standard output has room for.
-    pub room: usize,
+    pub room: u64,
     /// What standard input holds.
     pub input: String,
     /// Whether reading standard input fails.
@@ -30,14 +30,16 @@ impl Surroundings {
     /// Takes a line of what a call is given: its first word, and what is behind.
     pub fn take(&mut self, word: &str, rest: &str) -> Result<(), Refusal> {
         match word {
-            "room" => self.room = number(rest)? as usize,
-            "input" => push_line(&mut self.input, rest)?,
-            "tail" => self.input.push_str(rest)?,
-            "unreadable" => self.unreadable = true,
-            "turns" => self.turns = number(rest)?,
-            _ => return self.shelf.take(word, rest),
+            "room" => set(&mut self.room, rest),
+            "input" => push_line(&mut self.input, rest),
+            "tail" => push(&mut self.input, rest),
+            "unreadable" => {
+                self.unreadable = true;
+                Ok(())
+            }
+            "turns" => set(&mut self.turns, rest),
+            _ => self.shelf.take(word, rest),
         }
-        Ok(())
     }
 
     /// What standard input is.
@@ -63,7 +65,7 @@ impl Streams {
     fn make(alloc: Global, given: &Surroundings) -> Result<Streams, Refusal> {
         Ok(Streams {
             input: given.source(alloc)?,
-            out: MemorySink::make(alloc, given.room)?,
+            out: MemorySink::make(alloc, given.room as usize)?,
             err: MemorySink::make(alloc, 400)?,
         })
     }
@@ -80,8 +82,7 @@ const STAMP: Stamp = Stamp {
 /// What a call put and how it ended, and what is due of that.
 #[derive(Drop)]
 pub struct Call {
-    out: MemorySink,
-    err: MemorySink,
+    streams: Streams,
     code: u64,
     finished: u64,
     /// Whether the second of its pieces came while the first waited.
@@ -114,15 +115,17 @@ impl Due {
     /// Takes a line of what is due: its first word, and what is behind.
     pub fn take(&mut self, word: &str, rest: &str) -> Result<(), Refusal> {
         match word {
-            "out" => push_line(&mut self.out, rest)?,
-            "cut" => self.out.push_str(rest)?,
-            "err" => push_line(&mut self.err, rest)?,
-            "code" => self.code = number(rest)?,
-            "finished" => self.finished = number(rest)?,
-            "meets" => self.met = true,
-            _ => return Err(Refusal::Unknown),
+            "out" => push_line(&mut self.out, rest),
+            "cut" => push(&mut self.out, rest),
+            "err" => push_line(&mut self.err, rest),
+            "code" => set(&mut self.code, rest),
+            "finished" => set(&mut self.finished, rest),
+            "meets" => {
+                self.met = true;
+                Ok(())
+            }
+            _ => Err(Refusal::Unknown),
         }
-        Ok(())
     }
 }
 
@@ -136,20 +139,24 @@ impl Call {
         given: &Surroundings,
     ) -> Result<Call, Refusal> {
         let words = words_of(alloc, words)?;
-        let Streams {
-            mut input,
-            mut out,
-            mut err,
-        } = Streams::make(alloc, given)?;
+        let mut streams = Streams::make(alloc, given)?;
         let mut files = given.shelf.library();
         let gate = HoldingGate::new(given.turns);
         disk.forget_reads();
         let status = run(
-            rt, alloc, &words, disk, &mut files, &mut input, &mut out, &mut err, &STAMP, &gate,
+            rt,
+            alloc,
+            &words,
+            disk,
+            &mut files,
+            &mut streams.input,
+            &mut streams.out,
+            &mut streams.err,
+            &STAMP,
+            &gate,
         );
         Ok(Call {
-            out,
-            err,
+            streams,
             code: status.code as u64,
             finished: status.finished,
             met: gate.has_met(),
@@ -159,30 +166,32 @@ impl Call {
 
     /// Puts the answers that no call sees yet, one behind the other, as if a call did.
     pub fn put_answers(alloc: Global, given: &Surroundings) -> Result<Call, Refusal> {
-        let mut out = MemorySink::make(alloc, given.room)?;
-        for answer in answers() {
-            put_answer(&mut out, answer)?;
+        let mut streams = Streams::make(alloc, given)?;
+        match put_all(&mut streams.out) {
+            Ok(()) => Ok(Call {
+                streams,
+                code: 0,
+                finished: 0,
+                met: false,
+                due: Due::none(alloc),
+            }),
+            Err(refusal) => {
+                drop(streams);
+                Err(refusal)
+            }
         }
-        Ok(Call {
-            out,
-            err: MemorySink::make(alloc, 0)?,
-            code: 0,
-            finished: 0,
-            met: false,
-            due: Due::none(alloc),
-        })
     }
 
     /// Whether the call says that a write failed once so many blocks were written.
-    pub fn tells_fault(&self, alloc: Global, written: u64) -> Result<bool, AllocError> {
+    pub fn tells_fault(&self, alloc: Global, written: u64) -> Result<bool, Refusal> {
         let line = format!(in alloc; "xfs: write fault after {written} blocks\n")?;
-        Ok(self.err.bytes() == line.as_bytes() && self.code == 1)
+        Ok(self.streams.err.bytes() == line.as_bytes() && self.code == 1)
     }
 
     /// Whether all parts are as they are due.
     pub fn is_due(&self) -> bool {
-        self.out.bytes() == self.due.out.as_bytes()
-            && self.err.bytes() == self.due.err.as_bytes()
+        self.streams.out.bytes() == self.due.out.as_bytes()
+            && self.streams.err.bytes() == self.due.err.as_bytes()
             && self.code == self.due.code
             && self.finished == self.due.finished
             && self.met == self.due.met
@@ -191,13 +200,21 @@ impl Call {
     /// Adds a line for each part that is not as it is due.
     pub fn tell_differences(&self, alloc: Global, told: &mut String) -> Result<(), AllocError> {
         let (out, err) = (self.due.out.as_str(), self.due.err.as_str());
-        tell_stream(alloc, told, "output", self.out.bytes(), out)?;
-        tell_stream(alloc, told, "error", self.err.bytes(), err)?;
+        tell_stream(alloc, told, "output", self.streams.out.bytes(), out)?;
+        tell_stream(alloc, told, "error", self.streams.err.bytes(), err)?;
         tell_number(alloc, told, "code", self.code, self.due.code)?;
         tell_number(alloc, told, "finished", self.finished, self.due.finished)?;
         let (met, due) = (self.met as u64, self.due.met as u64);
         tell_number(alloc, told, "met", met, due)
     }
+}
+
+/// Puts the answers that no call sees yet.
+fn put_all(out: &mut MemorySink) -> Result<(), Refusal> {
+    for answer in answers() {
+        put_answer(out, answer)?;
+    }
+    Ok(())
 }
 
 /// Adds a line, unless memory lacked for it.
@@ -208,10 +225,26 @@ pub fn add(told: &mut String, line: Result<String, AllocError>) -> Result<(), Al
     }
 }
 
+/// Adds a line, unless memory lacked for it.
+pub fn tell(told: &mut String, line: Result<String, AllocError>) -> Result<(), Refusal> {
+    match add(told, line) {
+        Ok(()) => Ok(()),
+        Err(_) => Err(Refusal::NoMemory),
+    }
+}
+
+/// Adds a text.
+fn push(told: &mut String, text: &str) -> Result<(), Refusal> {
+    match told.push_str(text) {
+        Ok(()) => Ok(()),
+        Err(_) => Err(Refusal::NoMemory),
+    }
+}
+
 /// Adds a text and the end of its line.
-fn push_line(told: &mut String, text: &str) -> Result<(), AllocError> {
-    told.push_str(text)?;
-    told.push('\n')
+fn push_line(told: &mut String, text: &str) -> Result<(), Refusal> {
+    push(told, text)?;
+    push(told, "\n")
 }
 
 /// Adds a line where a stream does not hold what is due.
@@ -239,10 +272,11 @@ fn tell_number(
     due: u64,
 ) -> Result<(), AllocError> {
     if held == due {
-        return Ok(());
+        Ok(())
+    } else {
+        let line = format!(in alloc; "  {name} {held}, due {due}\n");
+        add(told, line)
     }
-    let line = format!(in alloc; "  {name} {held}, due {due}\n");
-    add(told, line)
 }
 
 /// The words of a text, with a bar between two of them.

@@ -1,6 +1,6 @@
 //! A case: a disk, calls on it, and what is due of them.
 
-use crate::calls::{Call, Surroundings, add};
+use crate::calls::{Call, Surroundings, add, tell};
 use crate::library::Shelf;
 use crate::numbers::{cut, number};
 use crate::refusal::Refusal;
@@ -10,7 +10,7 @@ use std::alloc::{AllocError, Global};
 use std::thread::Threads;
 
 /// The bytes that standard output has room for where a case does not say it.
-const ROOM: usize = 120;
+const ROOM: u64 = 120;
 
 /// A case of which lines were taken.
 #[derive(Drop)]
@@ -110,11 +110,12 @@ impl Case {
 
     /// Tells where a block does not hold the bytes that a line says.
     fn compare(&mut self, text: &str) -> Result<(), Refusal> {
-        if !self.disks.holds(text)? {
+        if self.disks.holds(text)? {
+            Ok(())
+        } else {
             let line = format!(in self.alloc; "  not held: {text}\n");
-            add(&mut self.told, line)?;
+            tell(&mut self.told, line)
         }
-        Ok(())
     }
 
     /// Tells which blocks the last call did not read before the first of these.
@@ -125,7 +126,7 @@ impl Case {
             let other = number(other)?;
             if !self.disks.held.reads_before(other, block) {
                 let line = format!(in self.alloc; "  block {other} is not read before {block}\n");
-                add(&mut self.told, line)?;
+                tell(&mut self.told, line)?;
             }
         }
         Ok(())
@@ -157,7 +158,7 @@ impl Case {
 
     /// Takes a call, whose answer the next lines say.
     fn begin(&mut self, call: Call) {
-        self.call = Some(call);
+        drop(self.call.replace(call));
         self.calls = self.calls.saturating_add(1);
     }
 
@@ -168,19 +169,18 @@ impl Case {
         let (due, step) = (number(due)?, number(step)?);
         let disk = &self.disks.held;
         let stops = stop_by_steps(rt, self.alloc, disk, step, words, &self.given)?;
-        self.tell_stops(&stops, due)?;
-        Ok(())
+        self.tell_stops(&stops, due)
     }
 
     /// Tells where so many blocks were not written, and where a stop left what it must not.
-    fn tell_stops(&mut self, stops: &Stops, due: u64) -> Result<(), AllocError> {
+    fn tell_stops(&mut self, stops: &Stops, due: u64) -> Result<(), Refusal> {
         let Stops { writes, wrong } = *stops;
         if writes != due {
             let line = format!(in self.alloc; "  {writes} blocks written, due {due}\n");
-            add(&mut self.told, line)?;
+            tell(&mut self.told, line)?;
         }
         match wrong {
-            Some(written) => add(
+            Some(written) => tell(
                 &mut self.told,
                 format!(in self.alloc; "  wrong behind {written} writes\n"),
             ),
@@ -191,7 +191,11 @@ impl Case {
     /// Tells what of the last call is not as it is due.
     fn end_call(&mut self) -> Result<(), AllocError> {
         match self.call.take() {
-            Some(call) => self.tell_call(&call),
+            Some(call) => {
+                let told = self.tell_call(&call);
+                drop(call);
+                told
+            }
             None => Ok(()),
         }
     }

@@ -1,12 +1,13 @@
 //! A disk whose first blocks are in memory, and of which no contract tells what it holds.
 
-ghost use Rattle.std.specs.Prelude.{◌≡◌, ◌≤◌, None};
+ghost use Rattle.std.specs.Prelude.{◌+◌, ◌<◌, ◌≡◌, ◌≤◌, None, length};
 ghost use Rattle.std.proofs.Common.{rules};
 
 use crate::refusal::Refusal;
 use std::alloc::Global;
 use xfs_disk::{BLOCK_SIZE, Disk, Failed};
 use xfs_memory::MemoryDisk;
+use xfs_word::put_part;
 
 /// A disk of `blocks` blocks. Those behind the ones in memory are zeros, and stay so.
 #[derive(Drop)]
@@ -52,9 +53,10 @@ impl CaseDisk {
     pub fn copy(&self, alloc: Global) -> Result<CaseDisk, Refusal> {
         let mut copy = CaseDisk::make(alloc, self.held(), self.blocks)?;
         let zeros = [0; BLOCK_SIZE];
-        for (place, block) in self.memory.image().chunks(BLOCK_SIZE).enumerate() {
+        for place in 0..self.held() {
+            let block = block_of(self.image(), place as usize);
             if block != zeros.as_slice() {
-                copy.put(place as u64, 0, block)?;
+                copy.put(place, 0, block)?;
             }
         }
         Ok(copy)
@@ -95,12 +97,21 @@ impl CaseDisk {
 
     /// Writes bytes over those that a block in memory holds.
     pub fn put(&mut self, place: u64, from: usize, bytes: &[u8]) -> Result<(), Refusal> {
-        let mut block = [0; BLOCK_SIZE];
-        if place >= self.memory.blocks()? || from > BLOCK_SIZE || bytes.len() > BLOCK_SIZE - from {
-            return Err(Refusal::Outside);
+        if place < self.memory.blocks()? && from <= BLOCK_SIZE && bytes.len() <= BLOCK_SIZE - from {
+            self.put_inside(place, from, bytes)
+        } else {
+            Err(Refusal::Outside)
         }
+    }
+
+    /// The same, where the bytes lie in a block in memory.
+    fn put_inside(&mut self, place: u64, from: usize, bytes: &[u8]) -> Result<(), Refusal>
+        requires place { place < size_of self.old.memory }
+        requires bytes { from + length bytes.now ≤ 4096 }
+    {
+        let mut block = [0; BLOCK_SIZE];
         self.memory.read(place, &mut block)?;
-        block[from..from + bytes.len()].copy_from_slice(bytes);
+        put_part(&mut block, from, bytes);
         self.memory.write(place, &block)?;
         Ok(())
     }
@@ -191,6 +202,14 @@ impl Disk for CaseDisk {
     ghost counts_now = { λ disk t image tells. absurd tells };
 
     ghost only_now = { λ disk image tells. absurd tells };
+}
+
+/// The block of this number; nothing where it is not there.
+pub fn block_of(image: &[u8], i: usize) -> &[u8] {
+    match image.get(i.saturating_mul(BLOCK_SIZE)..) {
+        Some(rest) => &rest[..rest.len().min(BLOCK_SIZE)],
+        None => &[],
+    }
 }
 
 /// Notes a read. One that finds no memory is not noted, and a line that asks for it finds it missing.

@@ -2,7 +2,7 @@
 
 ghost use Rattle.std.specs.Prelude.{None};
 
-use crate::numbers::{cut, number, read_bytes};
+use crate::numbers::{cut, number, read_bytes, set};
 use crate::refusal::Refusal;
 use std::alloc::Global;
 use xfs_disk::{Library, LibraryFault, Word};
@@ -38,29 +38,29 @@ impl Shelf {
     pub fn take(&mut self, word: &str, rest: &str) -> Result<(), Refusal> {
         let (name, text) = cut(rest);
         match word {
-            "file" => self.begin(name, read_bytes(self.alloc, text)?),
-            "text" => self.begin(name, Vec::from_slice(self.alloc, text.as_bytes())?),
-            "more" => {
-                let bytes = read_bytes(self.alloc, rest)?;
-                self.add(bytes.as_slice())
-            }
+            "file" => self.begin(name, read_bytes(self.alloc, text)),
+            "text" => self.begin(name, bytes_of(self.alloc, text)),
+            "more" => self.add_bytes(rest),
             "below" => self.add_line(rest),
-            "many" => self.add_entries(number(name)?, text),
-            "library-fail" => {
-                self.fails = number(rest)?;
-                Ok(())
-            }
+            "many" => self.add_entries(name, text),
+            "library-fail" => set(&mut self.fails, rest),
             _ => Err(Refusal::Unknown),
         }
     }
 
-    /// Adds a file.
-    fn begin(&mut self, name: &str, bytes: Vec<u8>) -> Result<(), Refusal> {
+    /// Adds a file, unless there are no bytes of it.
+    fn begin(&mut self, name: &str, bytes: Result<Vec<u8>, Refusal>) -> Result<(), Refusal> {
         self.files.push(CaseFile {
+            bytes: bytes?,
             name: String::from_str(self.alloc, name)?,
-            bytes,
         })?;
         Ok(())
+    }
+
+    /// Adds the bytes that digits state to the file that was added last.
+    fn add_bytes(&mut self, digits: &str) -> Result<(), Refusal> {
+        let bytes = read_bytes(self.alloc, digits)?;
+        self.add(bytes.as_slice())
     }
 
     /// Adds bytes to the file that was added last.
@@ -79,8 +79,8 @@ impl Shelf {
     }
 
     /// Adds lines to it, each with a name of its own in front.
-    fn add_entries(&mut self, count: u64, text: &str) -> Result<(), Refusal> {
-        for number in 0..count {
+    fn add_entries(&mut self, count: &str, text: &str) -> Result<(), Refusal> {
+        for number in 0..number(count)? {
             let line = format!(in self.alloc; "\nn{number:05} {text}")?;
             self.add(line.as_bytes())?;
         }
@@ -94,6 +94,14 @@ impl Shelf {
             fails: self.fails,
             faults: 0,
         }
+    }
+}
+
+/// The bytes of a text.
+fn bytes_of(alloc: Global, text: &str) -> Result<Vec<u8>, Refusal> {
+    match Vec::from_slice(alloc, text.as_bytes()) {
+        Ok(bytes) => Ok(bytes),
+        Err(_) => Err(Refusal::NoMemory),
     }
 }
 

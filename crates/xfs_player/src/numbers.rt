@@ -18,6 +18,12 @@ pub fn number(text: &str) -> Result<u64, Refusal> {
     }
 }
 
+/// Sets a number to the one that a text is.
+pub fn set(place: &mut u64, text: &str) -> Result<(), Refusal> {
+    *place = number(text)?;
+    Ok(())
+}
+
 /// The numbers that the words of a text are, which are as many as these.
 pub fn numbers<const N: usize>(text: &str) -> Result<[u64; N], Refusal> {
     let mut numbers = [0; N];

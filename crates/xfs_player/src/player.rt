@@ -3,7 +3,7 @@
 use crate::case::Case;
 use crate::numbers::cut;
 use crate::refusal::Refusal;
-use std::alloc::Global;
+use std::alloc::{AllocError, Global};
 use std::io;
 use std::thread::Threads;
 
@@ -52,12 +52,10 @@ impl Player {
 
     /// Ends the case that has begun, and prints how it went.
     pub fn end_case(&mut self, rt: &impl Print) -> io::Result<()> {
-        let told = match &mut self.case {
-            Some(case) => case.end()?,
-            None => return Ok(()),
-        };
-        self.case = None;
-        println!(rt; "{told}")
+        match self.case.take() {
+            Some(case) => end(rt, case),
+            None => Ok(()),
+        }
     }
 
     /// Tells that a line can't be done.
@@ -93,7 +91,7 @@ impl Player {
     /// Begins a case.
     fn begin(&mut self, name: &str) -> Result<(), Refusal> {
         let case = Case::new(self.alloc, name)?;
-        self.case = Some(case);
+        drop(self.case.replace(case));
         Ok(())
     }
 
@@ -128,6 +126,20 @@ impl Player {
         }
         Ok(())
     }
+}
+
+/// Ends a case, and prints how it went.
+fn end(rt: &impl Print, case: Case) -> io::Result<()> {
+    let mut case = case;
+    let told = case.end();
+    drop(case);
+    print_told(rt, told)
+}
+
+/// Prints a line, unless memory lacked for it.
+fn print_told(rt: &impl Print, told: Result<String, AllocError>) -> io::Result<()> {
+    let told = told?;
+    println!(rt; "{told}")
 }
 
 /// Takes lines of a case.

@@ -1,9 +1,10 @@
 //! A call that stops after some of its writes, after more of them, and so on.
 
 use crate::calls::{Call, Surroundings};
-use crate::disk::CaseDisk;
+use crate::disk::{CaseDisk, block_of};
 use crate::refusal::Refusal;
 use std::alloc::Global;
+use std::mem;
 use std::thread::Threads;
 use xfs_disk::BLOCK_SIZE;
 
@@ -38,14 +39,12 @@ pub fn stop_by_steps(
     given: &Surroundings,
 ) -> Result<Stops, Refusal> {
     let mut whole = disk.copy(alloc)?;
-    drop(Call::make(rt, alloc, &mut whole, words, given)?);
-    let before = disk.copy(alloc)?;
-    let stops = stop_in_turn(rt, alloc, disk, step, words, given, &whole, before);
+    let stops = stop_in_turn(rt, alloc, disk, step, words, given, &mut whole);
     drop(whole);
     stops
 }
 
-/// The same, where it is known what the whole call leaves.
+/// The same, on a copy for the whole call.
 fn stop_in_turn(
     rt: &(impl Threads + Sync),
     alloc: Global,
@@ -53,48 +52,58 @@ fn stop_in_turn(
     step: u64,
     words: &str,
     given: &Surroundings,
-    whole: &CaseDisk,
-    before: CaseDisk,
+    whole: &mut CaseDisk,
 ) -> Result<Stops, Refusal> {
-    let writes = whole.writes();
-    let mut last = before;
-    let (mut done, mut place) = (0, 0);
-    for _ in 0..writes {
-        if done >= writes {
-            break;
-        }
-        let written = writes.min(done.saturating_add(step));
-        let stopped = stop_once(
-            rt, alloc, disk, written, words, given, whole, &last, done, place,
-        );
-        match stopped {
-            Ok(Some(next)) => {
-                last = next.disk;
-                place = next.place;
-                done = written;
-            }
-            Ok(None) => {
-                return Ok(Stops {
-                    writes,
-                    wrong: Some(written),
-                });
-            }
-            Err(refusal) => return Err(refusal),
-        }
-    }
-    let wrong = wrong_at_end(&last, whole);
+    drop(Call::make(rt, alloc, whole, words, given)?);
+    let mut last = StoppedDisk {
+        disk: disk.copy(alloc)?,
+        place: 0,
+        done: 0,
+    };
+    let stops = stop_all(rt, alloc, disk, step, words, given, whole, &mut last);
     drop(last);
-    Ok(Stops { writes, wrong })
+    stops
 }
 
-/// A copy of a disk on which a call stopped, and the highest block that was written so far.
+/// The same, where no call was stopped so far.
+fn stop_all(
+    rt: &(impl Threads + Sync),
+    alloc: Global,
+    disk: &CaseDisk,
+    step: u64,
+    words: &str,
+    given: &Surroundings,
+    whole: &CaseDisk,
+    last: &mut StoppedDisk,
+) -> Result<Stops, Refusal> {
+    let writes = whole.writes();
+    for _ in 0..writes {
+        if last.done >= writes {
+            break;
+        }
+        let written = writes.min(last.done.saturating_add(step));
+        if !stop_once(rt, alloc, disk, written, words, given, whole, last)? {
+            return Ok(Stops {
+                writes,
+                wrong: Some(written),
+            });
+        }
+    }
+    Ok(Stops {
+        writes,
+        wrong: wrong_at_end(&last.disk, whole),
+    })
+}
+
+/// A copy of a disk on which a call stopped, the highest block that was written so far, and how many were.
 #[derive(Drop)]
 struct StoppedDisk {
     disk: CaseDisk,
     place: usize,
+    done: u64,
 }
 
-/// Makes the call on a copy that stops after so many writes; `None` where it leaves or tells what it must not.
+/// Makes the call on a copy that stops after so many writes, and keeps that; no, where it leaves or tells what it must not.
 fn stop_once(
     rt: &(impl Threads + Sync),
     alloc: Global,
@@ -103,22 +112,47 @@ fn stop_once(
     words: &str,
     given: &Surroundings,
     whole: &CaseDisk,
-    last: &CaseDisk,
-    done: u64,
-    place: usize,
-) -> Result<Option<StoppedDisk>, Refusal> {
+    last: &mut StoppedDisk,
+) -> Result<bool, Refusal> {
     let mut stopped = disk.copy(alloc)?;
     stopped.stop_after(written);
-    let told = tells_stop(rt, alloc, &mut stopped, written, words, given)?;
-    let changes = changes_between(last.image(), stopped.image(), whole.image());
+    match stop_copy(rt, alloc, &mut stopped, written, words, given, whole, last) {
+        Ok(Some(place)) => {
+            last.place = place;
+            last.done = written;
+            drop(mem::replace(&mut last.disk, stopped));
+            Ok(true)
+        }
+        Ok(None) => {
+            drop(stopped);
+            Ok(false)
+        }
+        Err(refusal) => {
+            drop(stopped);
+            Err(refusal)
+        }
+    }
+}
+
+/// Makes the call on a copy, and says which block is the highest that was written then; `None` where it leaves or tells what it must not.
+fn stop_copy(
+    rt: &(impl Threads + Sync),
+    alloc: Global,
+    stopped: &mut CaseDisk,
+    written: u64,
+    words: &str,
+    given: &Surroundings,
+    whole: &CaseDisk,
+    last: &StoppedDisk,
+) -> Result<Option<usize>, Refusal> {
+    if !tells_stop(rt, alloc, stopped, written, words, given)? {
+        return Ok(None);
+    }
     let at_end = written == whole.writes();
-    if told && is_in_order(changes, written.saturating_sub(done), place, at_end) {
-        Ok(Some(StoppedDisk {
-            disk: stopped,
-            place: highest(changes, place),
-        }))
-    } else {
-        Ok(None)
+    let count = written.saturating_sub(last.done);
+    match changes_between(last.disk.image(), stopped.image(), whole.image()) {
+        Some(changes) => Ok(changes.next_place(count, last.place, at_end)),
+        None => Ok(None),
     }
 }
 
@@ -131,8 +165,14 @@ fn tells_stop(
     words: &str,
     given: &Surroundings,
 ) -> Result<bool, Refusal> {
-    let call = Call::make(rt, alloc, stopped, words, given)?;
-    Ok(call.tells_fault(alloc, written)?)
+    match Call::make(rt, alloc, stopped, words, given) {
+        Ok(call) => {
+            let told = call.tells_fault(alloc, written);
+            drop(call);
+            told
+        }
+        Err(refusal) => Err(refusal),
+    }
 }
 
 /// The number of writes, where all of them did not leave what the whole call does.
@@ -145,34 +185,21 @@ fn wrong_at_end(last: &CaseDisk, whole: &CaseDisk) -> Option<u64> {
 }
 
 impl Changes {
-    /// Whether they come behind a block, and block 0 in the end alone.
-    fn is_behind(&self, place: usize, at_end: bool) -> bool {
-        let rest = match self.ends {
-            Some((lowest, _)) => place < lowest,
-            None => true,
-        };
-        rest && (at_end || !self.begins)
+    /// The highest of the blocks so far, where so many changed, and come behind a block, and block 0 in the end alone.
+    fn next_place(&self, count: u64, place: usize, at_end: bool) -> Option<usize> {
+        if self.count == count && (at_end || !self.begins) {
+            self.highest(place)
+        } else {
+            None
+        }
     }
-}
 
-/// Whether so many blocks changed, and come behind a block, and block 0 in the end alone.
-fn is_in_order(changes: Option<Changes>, count: u64, place: usize, at_end: bool) -> bool {
-    match changes {
-        Some(changes) => changes.count == count && changes.is_behind(place, at_end),
-        None => false,
-    }
-}
-
-/// The highest of the blocks so far.
-fn highest(changes: Option<Changes>, place: usize) -> usize {
-    match changes {
-        Some(
-            Changes {
-                ends: Some((_, highest)),
-                ..
-            },
-        ) => highest,
-        _ => place,
+    /// The highest of the blocks so far, where they come behind a block.
+    fn highest(&self, place: usize) -> Option<usize> {
+        match self.ends {
+            Some((lowest, highest)) => { if place < lowest { Some(highest) } else { None } }
+            None => Some(place),
+        }
     }
 }
 
@@ -183,10 +210,10 @@ fn changes_between(before: &[u8], now: &[u8], whole: &[u8]) -> Option<Changes> {
         begins: false,
         ends: None,
     };
-    let blocks = before.chunks(BLOCK_SIZE).zip(now.chunks(BLOCK_SIZE));
-    for (i, ((old, new), due)) in blocks.zip(whole.chunks(BLOCK_SIZE)).enumerate() {
-        if old != new {
-            if new != due {
+    for i in 0..now.len() / BLOCK_SIZE {
+        let new = block_of(now, i);
+        if new != block_of(before, i) {
+            if new != block_of(whole, i) {
                 return None;
             }
             changes = with_block(changes, i);

@@ -7,6 +7,7 @@ use crate::numbers::{cut, number, numbers, read_byte, read_bytes};
 use crate::refusal::Refusal;
 use crate::vast::put_chunks;
 use std::alloc::Global;
+use std::mem;
 use xfs_disk::BLOCK_SIZE;
 use xfs_word::{put_checksum, put_part, put16, put32, put64};
 
@@ -44,12 +45,26 @@ impl Disks {
     /// Takes a line of the disks: its first word, and what is behind.
     pub fn take(&mut self, word: &str, rest: &str) -> Result<(), Refusal> {
         match word {
-            "then" => self.due_alone = true,
-            "fail" => self.held.fail(number(rest)?)?,
-            "halt" => self.held.stop_after(number(rest)?),
-            "restart" => self.held = self.held.copy(self.alloc)?,
-            _ => return self.fill(word, rest),
+            "then" => {
+                self.due_alone = true;
+                Ok(())
+            }
+            "fail" => self.held.fail(number(rest)?),
+            "halt" => {
+                self.held.stop_after(number(rest)?);
+                Ok(())
+            }
+            "restart" => {
+                let copy = self.held.copy(self.alloc);
+                self.hold(copy)
+            }
+            _ => self.fill(word, rest),
         }
+    }
+
+    /// Takes another disk, unless there was no memory for it.
+    fn hold(&mut self, disk: Result<CaseDisk, Refusal>) -> Result<(), Refusal> {
+        drop(mem::replace(&mut self.held, disk?));
         Ok(())
     }
 
@@ -84,11 +99,13 @@ impl Disks {
 
     /// Makes both disks, or what is due alone, as this one.
     fn replace(&mut self, due: CaseDisk) -> Result<(), Refusal> {
-        self.due = due;
-        if !self.due_alone {
-            self.held = self.due.copy(self.alloc)?;
+        drop(mem::replace(&mut self.due, due));
+        if self.due_alone {
+            Ok(())
+        } else {
+            let copy = self.due.copy(self.alloc);
+            self.hold(copy)
         }
-        Ok(())
     }
 
     /// `filled BLOCKS DIGITS`: makes disks of so many blocks, all in memory, each byte of which is this one.
