@@ -13,149 +13,121 @@ use Rattle.xfs_mend.specs.declared.outcome.Outcome.TheVariants as out
 use Rattle.xfs_mend.specs.declared.outcome.Summary.TheVariants.{Backups}
 use Rattle.xfs_mend.proofs.repairing.repair_backups.Goals as goal
 
-pub returns-in-Err-ReadFault-clause-leaves : goal.returns-in-Err-ReadFault-clause-leaves
-returns-in-Err-ReadFault-clause-leaves g c = λ image told. c.in-Err-ReadFault.ensures.disk.same_contents ∙ told
-
-pub returns-in-Err-ReadFault-clause-stops : goal.returns-in-Err-ReadFault-clause-stops
-returns-in-Err-ReadFault-clause-stops g c = λ tells image told t stopped low left.
+pub returns-in-Err-ReadFault : goal.returns-in-Err-ReadFault
+returns-in-Err-ReadFault g c =
     let D = g.D.Disk in
-    stops_read D.size D.holds D.faults D.write_faults D.writes D.tells_stops D.moment D.may_leave D.left_since c.args.disk.now c.plan_backups.new.disk t stopped _
-    c.in-Err-ReadFault.ensures.disk tells low left
+    record {
+      due = λ image told. tt;
+      leaves = λ image told. c.in-Err-ReadFault.ensures.disk.same_contents ∙ told;
+      stops = λ tells image told t stopped low left.
+          stops_read D.size D.holds D.faults D.write_faults D.writes D.tells_stops D.moment D.may_leave D.left_since c.args.disk.now c.plan_backups.new.disk t stopped _
+          c.in-Err-ReadFault.ensures.disk tells low left;
+      possible = λ o repairs. tt;
+      ends = let rose : Rose (D.faults c.args.disk.now) (D.faults c.plan_backups.new.disk) = rw c.in-Err-ReadFault.field-0-is at c.in-Err-ReadFault.ensures.cause in
+          ends_read D.size D.holds D.faults D.write_faults D.writes D.tells_stops D.moment D.may_leave D.left_since c.args.disk.now c.plan_backups.new.disk _
+          c.in-Err-ReadFault.ensures.disk rose.0 refl (rose, c.faults.ensures.count);
+    }
 
-pub returns-in-Err-ReadFault-clause-ends : goal.returns-in-Err-ReadFault-clause-ends
-returns-in-Err-ReadFault-clause-ends g c =
+pub returns-in-Err-NoMemory : goal.returns-in-Err-NoMemory
+returns-in-Err-NoMemory g c =
     let D = g.D.Disk in
-    let rose : Rose (D.faults c.args.disk.now) (D.faults c.plan_backups.new.disk) = rw c.in-Err-ReadFault.field-0-is at c.in-Err-ReadFault.ensures.cause in
-    ends_read D.size D.holds D.faults D.write_faults D.writes D.tells_stops D.moment D.may_leave D.left_since c.args.disk.now c.plan_backups.new.disk _
-    c.in-Err-ReadFault.ensures.disk rose.0 refl (rose, c.faults.ensures.count)
+    record {
+      due = λ image told. tt;
+      leaves = λ image told. c.in-Err-NoMemory.ensures.disk.same_contents ∙ told;
+      stops = λ tells image told t stopped low left.
+          stops_read D.size D.holds D.faults D.write_faults D.writes D.tells_stops D.moment D.may_leave D.left_since c.args.disk.now c.plan_backups.new.disk t stopped _
+          c.in-Err-NoMemory.ensures.disk tells low left;
+      possible = λ o repairs. tt;
+      ends = let up : D.faults c.args.disk.now ≤ D.faults c.plan_backups.new.disk = rw c.in-Err-NoMemory.field-0-is at c.in-Err-NoMemory.ensures.cause in
+          ends_read D.size D.holds D.faults D.write_faults D.writes D.tells_stops D.moment D.may_leave D.left_since c.args.disk.now c.plan_backups.new.disk out.NoMemory
+          c.in-Err-NoMemory.ensures.disk up refl tt;
+    }
 
-pub returns-in-Err-NoMemory-clause-leaves : goal.returns-in-Err-NoMemory-clause-leaves
-returns-in-Err-NoMemory-clause-leaves g c = λ image told. c.in-Err-NoMemory.ensures.disk.same_contents ∙ told
-
-pub returns-in-Err-NoMemory-clause-stops : goal.returns-in-Err-NoMemory-clause-stops
-returns-in-Err-NoMemory-clause-stops g c = λ tells image told t stopped low left.
+pub returns-in-Ok-write_parts : goal.returns-in-Ok-write_parts
+returns-in-Ok-write_parts g c =
     let D = g.D.Disk in
-    stops_read D.size D.holds D.faults D.write_faults D.writes D.tells_stops D.moment D.may_leave D.left_since c.args.disk.now c.plan_backups.new.disk t stopped _
-    c.in-Err-NoMemory.ensures.disk tells low left
+    record {
+      due = λ image told.
+          let bank = c.in-Ok.plan.bank in
+          let rows = c.as_slice.result.now in
+          let same : writes_of_rows bank rows ≡ steps_from c.args.primary.now image 1 (c.args.geometry.now.agcount - 1) = ap (writes_of_rows bank) c.as_slice.ensures.value ∙ c.in-Ok.ensures.plan image told in
+          let count : c.len.result ≡ length (steps_from c.args.primary.now image 1 (c.args.geometry.now.agcount - 1)) =
+          omega (arith, c.len.ensures, c.in-Ok.plan.rows.ok.0, ap length c.as_slice.ensures.value, length-map rows (write_of bank), ap length same) in
+          ap (λ (n : ℕ). out.Repaired (Backups n)) count;
+      leaves = λ image told.
+          let bank = c.in-Ok.plan.bank in
+          let rows = c.as_slice.result.now in
+          let same : writes_of_rows bank rows ≡ steps_from c.args.primary.now image 1 (c.args.geometry.now.agcount - 1) = ap (writes_of_rows bank) c.as_slice.ensures.value ∙ c.in-Ok.ensures.plan image told in
+          subst (λ (ws : Writes). g.D.Disk.holds c.write_parts.new.disk ≡ Some (written ws image)) same
+          (c.in-Ok-write_parts.ensures.done image (c.in-Ok.ensures.disk.same_contents ∙ told));
+      stops = λ tells image told t stopped low left.
+          let disk = c.in-Ok.ensures.disk in
+          let bank = c.in-Ok.plan.bank in
+          let rows = c.as_slice.result.now in
+          let same : writes_of_rows bank rows ≡ steps_from c.args.primary.now image 1 (c.args.geometry.now.agcount - 1) = ap (writes_of_rows bank) c.as_slice.ensures.value ∙ c.in-Ok.ensures.plan image told in
+          stops_behind D.size D.holds D.faults D.write_faults D.writes D.tells_stops D.moment D.may_leave D.left_since c.args.disk.now c.plan_backups.new.disk c.write_parts.new.disk t stopped (StopsOf (steps_from c.args.primary.now image 1 (c.args.geometry.now.agcount - 1)) image (out.Repaired (Backups c.len.result)) stopped) disk tells low
+          (λ low' left'. stops_written image (writes_of_rows bank rows) (steps_from c.args.primary.now image 1 (c.args.geometry.now.agcount - 1)) (out.Repaired (Backups c.len.result)) stopped (D.left_since c.plan_backups.new.disk t stopped) same refl
+          (c.in-Ok-write_parts.ensures.stops (disk.tells tells) image (disk.same_contents ∙ told) t stopped low' left'))
+          left;
+      possible = λ o repairs. repairs;
+      ends = let up : D.faults c.args.disk.now ≤ D.faults c.plan_backups.new.disk = c.in-Ok.ensures.cause in
+          let count : 0 + length c.as_slice.result.now ≡ c.len.result = omega (arith, c.len.ensures, c.in-Ok.plan.rows.ok.0, ap length c.as_slice.ensures.value) in
+          let part : Ends D.size D.holds D.faults D.write_faults D.writes D.tells_stops D.moment D.may_leave D.left_since c.plan_backups.new.disk c.write_parts.new.disk (out.Repaired (Backups c.len.result)) = record {
+            cause = tt;
+            kept = c.in-Ok-write_parts.ensures.kept;
+            counted = subst (λ (n : ℕ). D.writes c.write_parts.new.disk ≡ raised_times n (D.writes c.plan_backups.new.disk)) count c.in-Ok-write_parts.ensures.counted;
+            only_read = λ says. cc;
+            same_size = c.in-Ok-write_parts.ensures.size;
+            more_faults = omega (arith, c.in-Ok-write_parts.ensures.faults);
+            more_write_faults = c.in-Ok-write_parts.ensures.cause;
+            tells = c.in-Ok-write_parts.ensures.tells;
+            later = c.in-Ok-write_parts.ensures.later;
+          } in
+          ends_behind D.size D.holds D.faults D.write_faults D.writes D.tells_stops D.moment D.may_leave D.left_since c.args.disk.now c.plan_backups.new.disk c.write_parts.new.disk (out.Repaired (Backups c.len.result))
+          c.in-Ok.ensures.disk up part;
+    }
 
-pub returns-in-Err-NoMemory-clause-ends : goal.returns-in-Err-NoMemory-clause-ends
-returns-in-Err-NoMemory-clause-ends g c =
+pub returns : goal.returns
+returns g c =
     let D = g.D.Disk in
-    let up : D.faults c.args.disk.now ≤ D.faults c.plan_backups.new.disk = rw c.in-Err-NoMemory.field-0-is at c.in-Err-NoMemory.ensures.cause in
-    ends_read D.size D.holds D.faults D.write_faults D.writes D.tells_stops D.moment D.may_leave D.left_since c.args.disk.now c.plan_backups.new.disk out.NoMemory
-    c.in-Err-NoMemory.ensures.disk up refl tt
-
-pub returns-in-Ok-write_parts-clause-due : goal.returns-in-Ok-write_parts-clause-due
-returns-in-Ok-write_parts-clause-due g c = λ image told.
-    let bank = c.in-Ok.plan.bank in
-    let rows = c.as_slice.result.now in
-    let same : writes_of_rows bank rows ≡ steps_from c.args.primary.now image 1 (c.args.geometry.now.agcount - 1) = ap (writes_of_rows bank) c.as_slice.ensures.value ∙ c.in-Ok.ensures.plan image told in
-    let count : c.len.result ≡ length (steps_from c.args.primary.now image 1 (c.args.geometry.now.agcount - 1)) =
-    omega (arith, c.len.ensures, c.in-Ok.plan.rows.ok.0, ap length c.as_slice.ensures.value, length-map rows (write_of bank), ap length same) in
-    ap (λ (n : ℕ). out.Repaired (Backups n)) count
-
-pub returns-in-Ok-write_parts-clause-leaves : goal.returns-in-Ok-write_parts-clause-leaves
-returns-in-Ok-write_parts-clause-leaves g c = λ image told.
-    let bank = c.in-Ok.plan.bank in
-    let rows = c.as_slice.result.now in
-    let same : writes_of_rows bank rows ≡ steps_from c.args.primary.now image 1 (c.args.geometry.now.agcount - 1) = ap (writes_of_rows bank) c.as_slice.ensures.value ∙ c.in-Ok.ensures.plan image told in
-    subst (λ (ws : Writes). g.D.Disk.holds c.write_parts.new.disk ≡ Some (written ws image)) same
-    (c.in-Ok-write_parts.ensures.done image (c.in-Ok.ensures.disk.same_contents ∙ told))
-
-pub returns-in-Ok-write_parts-clause-stops : goal.returns-in-Ok-write_parts-clause-stops
-returns-in-Ok-write_parts-clause-stops g c = λ tells image told t stopped low left.
-    let D = g.D.Disk in
-    let disk = c.in-Ok.ensures.disk in
-    let bank = c.in-Ok.plan.bank in
-    let rows = c.as_slice.result.now in
-    let same : writes_of_rows bank rows ≡ steps_from c.args.primary.now image 1 (c.args.geometry.now.agcount - 1) = ap (writes_of_rows bank) c.as_slice.ensures.value ∙ c.in-Ok.ensures.plan image told in
-    stops_behind D.size D.holds D.faults D.write_faults D.writes D.tells_stops D.moment D.may_leave D.left_since c.args.disk.now c.plan_backups.new.disk c.write_parts.new.disk t stopped (StopsOf (steps_from c.args.primary.now image 1 (c.args.geometry.now.agcount - 1)) image (out.Repaired (Backups c.len.result)) stopped) disk tells low
-    (λ low' left'. stops_written image (writes_of_rows bank rows) (steps_from c.args.primary.now image 1 (c.args.geometry.now.agcount - 1)) (out.Repaired (Backups c.len.result)) stopped (D.left_since c.plan_backups.new.disk t stopped) same refl
-    (c.in-Ok-write_parts.ensures.stops (disk.tells tells) image (disk.same_contents ∙ told) t stopped low' left'))
-    left
-
-pub returns-in-Ok-write_parts-clause-ends : goal.returns-in-Ok-write_parts-clause-ends
-returns-in-Ok-write_parts-clause-ends g c =
-    let D = g.D.Disk in
-    let up : D.faults c.args.disk.now ≤ D.faults c.plan_backups.new.disk = c.in-Ok.ensures.cause in
-    let count : 0 + length c.as_slice.result.now ≡ c.len.result = omega (arith, c.len.ensures, c.in-Ok.plan.rows.ok.0, ap length c.as_slice.ensures.value) in
-    let part : Ends D.size D.holds D.faults D.write_faults D.writes D.tells_stops D.moment D.may_leave D.left_since c.plan_backups.new.disk c.write_parts.new.disk (out.Repaired (Backups c.len.result)) = record {
-      cause = tt;
-      kept = c.in-Ok-write_parts.ensures.kept;
-      counted = subst (λ (n : ℕ). D.writes c.write_parts.new.disk ≡ raised_times n (D.writes c.plan_backups.new.disk)) count c.in-Ok-write_parts.ensures.counted;
-      only_read = λ says. cc;
-      same_size = c.in-Ok-write_parts.ensures.size;
-      more_faults = omega (arith, c.in-Ok-write_parts.ensures.faults);
-      more_write_faults = c.in-Ok-write_parts.ensures.cause;
-      tells = c.in-Ok-write_parts.ensures.tells;
-      later = c.in-Ok-write_parts.ensures.later;
-    } in
-    ends_behind D.size D.holds D.faults D.write_faults D.writes D.tells_stops D.moment D.may_leave D.left_since c.args.disk.now c.plan_backups.new.disk c.write_parts.new.disk (out.Repaired (Backups c.len.result))
-    c.in-Ok.ensures.disk up part
-
-pub returns-clause-due : goal.returns-clause-due
-returns-clause-due g c = λ image told.
-    let bank = c.in-Ok.plan.bank in
-    let rows = c.as_slice.result.now in
-    let same : writes_of_rows bank rows ≡ steps_from c.args.primary.now image 1 (c.args.geometry.now.agcount - 1) = ap (writes_of_rows bank) c.as_slice.ensures.value ∙ c.in-Ok.ensures.plan image told in
-    let most : c.in-Err.written ≤ length (steps_from c.args.primary.now image 1 (c.args.geometry.now.agcount - 1)) = omega (arith, c.in-Err.ensures.most, length-map rows (write_of bank), ap length same) in
-    (Backups (length (steps_from c.args.primary.now image 1 (c.args.geometry.now.agcount - 1))), most, refl)
-
-pub returns-clause-leaves : goal.returns-clause-leaves
-returns-clause-leaves g c = λ image told.
-    let bank = c.in-Ok.plan.bank in
-    let rows = c.as_slice.result.now in
-    let same : writes_of_rows bank rows ≡ steps_from c.args.primary.now image 1 (c.args.geometry.now.agcount - 1) = ap (writes_of_rows bank) c.as_slice.ensures.value ∙ c.in-Ok.ensures.plan image told in
-    subst (λ (ws : Writes). IsPartly ws image c.in-Err.written (g.D.Disk.holds c.write_parts.new.disk)) same
-    (c.in-Err.ensures.partly image (c.in-Ok.ensures.disk.same_contents ∙ told))
-
-pub returns-clause-stops : goal.returns-clause-stops
-returns-clause-stops g c = λ tells image told t stopped low left.
-    let D = g.D.Disk in
-    let disk = c.in-Ok.ensures.disk in
-    let bank = c.in-Ok.plan.bank in
-    let rows = c.as_slice.result.now in
-    let same : writes_of_rows bank rows ≡ steps_from c.args.primary.now image 1 (c.args.geometry.now.agcount - 1) = ap (writes_of_rows bank) c.as_slice.ensures.value ∙ c.in-Ok.ensures.plan image told in
-    stops_behind D.size D.holds D.faults D.write_faults D.writes D.tells_stops D.moment D.may_leave D.left_since c.args.disk.now c.plan_backups.new.disk c.write_parts.new.disk t stopped (StopsOf (steps_from c.args.primary.now image 1 (c.args.geometry.now.agcount - 1)) image (out.WriteFault c.in-Err.written) stopped) disk tells low
-    (λ low' left'. stops_written image (writes_of_rows bank rows) (steps_from c.args.primary.now image 1 (c.args.geometry.now.agcount - 1)) (out.WriteFault c.in-Err.written) stopped (D.left_since c.plan_backups.new.disk t stopped) same refl
-    (c.in-Err.ensures.stops (disk.tells tells) image (disk.same_contents ∙ told) t stopped low' left'))
-    left
-
-pub returns-clause-ends : goal.returns-clause-ends
-returns-clause-ends g c =
-    let D = g.D.Disk in
-    let up : D.faults c.args.disk.now ≤ D.faults c.plan_backups.new.disk = c.in-Ok.ensures.cause in
-    let part : Ends D.size D.holds D.faults D.write_faults D.writes D.tells_stops D.moment D.may_leave D.left_since c.plan_backups.new.disk c.write_parts.new.disk (out.WriteFault c.in-Err.written) = record {
-      cause = c.in-Err.ensures.cause;
-      kept = tt;
-      counted = c.in-Err.ensures.counted;
-      only_read = λ says. cc;
-      same_size = c.in-Err.ensures.size;
-      more_faults = omega (arith, c.in-Err.ensures.faults);
-      more_write_faults = (let rose = c.in-Err.ensures.cause in rose.0);
-      tells = c.in-Err.ensures.tells;
-      later = c.in-Err.ensures.later;
-    } in
-    ends_behind D.size D.holds D.faults D.write_faults D.writes D.tells_stops D.moment D.may_leave D.left_since c.args.disk.now c.plan_backups.new.disk c.write_parts.new.disk (out.WriteFault c.in-Err.written)
-    c.in-Ok.ensures.disk up part
-
-pub returns-in-Err-ReadFault-clause-due : goal.returns-in-Err-ReadFault-clause-due
-returns-in-Err-ReadFault-clause-due g c = λ image told. tt
-
-pub returns-in-Err-ReadFault-clause-possible : goal.returns-in-Err-ReadFault-clause-possible
-returns-in-Err-ReadFault-clause-possible g c = λ o repairs. tt
-
-pub returns-in-Err-NoMemory-clause-due : goal.returns-in-Err-NoMemory-clause-due
-returns-in-Err-NoMemory-clause-due g c = λ image told. tt
-
-pub returns-in-Err-NoMemory-clause-possible : goal.returns-in-Err-NoMemory-clause-possible
-returns-in-Err-NoMemory-clause-possible g c = λ o repairs. tt
-
-pub returns-in-Ok-write_parts-clause-possible : goal.returns-in-Ok-write_parts-clause-possible
-returns-in-Ok-write_parts-clause-possible g c = λ o repairs. repairs
-
-pub returns-clause-possible : goal.returns-clause-possible
-returns-clause-possible g c = λ o repairs. repairs
+    record {
+      due = λ image told.
+          let bank = c.in-Ok.plan.bank in
+          let rows = c.as_slice.result.now in
+          let same : writes_of_rows bank rows ≡ steps_from c.args.primary.now image 1 (c.args.geometry.now.agcount - 1) = ap (writes_of_rows bank) c.as_slice.ensures.value ∙ c.in-Ok.ensures.plan image told in
+          let most : c.in-Err.written ≤ length (steps_from c.args.primary.now image 1 (c.args.geometry.now.agcount - 1)) = omega (arith, c.in-Err.ensures.most, length-map rows (write_of bank), ap length same) in
+          (Backups (length (steps_from c.args.primary.now image 1 (c.args.geometry.now.agcount - 1))), most, refl);
+      leaves = λ image told.
+          let bank = c.in-Ok.plan.bank in
+          let rows = c.as_slice.result.now in
+          let same : writes_of_rows bank rows ≡ steps_from c.args.primary.now image 1 (c.args.geometry.now.agcount - 1) = ap (writes_of_rows bank) c.as_slice.ensures.value ∙ c.in-Ok.ensures.plan image told in
+          subst (λ (ws : Writes). IsPartly ws image c.in-Err.written (g.D.Disk.holds c.write_parts.new.disk)) same
+          (c.in-Err.ensures.partly image (c.in-Ok.ensures.disk.same_contents ∙ told));
+      stops = λ tells image told t stopped low left.
+          let disk = c.in-Ok.ensures.disk in
+          let bank = c.in-Ok.plan.bank in
+          let rows = c.as_slice.result.now in
+          let same : writes_of_rows bank rows ≡ steps_from c.args.primary.now image 1 (c.args.geometry.now.agcount - 1) = ap (writes_of_rows bank) c.as_slice.ensures.value ∙ c.in-Ok.ensures.plan image told in
+          stops_behind D.size D.holds D.faults D.write_faults D.writes D.tells_stops D.moment D.may_leave D.left_since c.args.disk.now c.plan_backups.new.disk c.write_parts.new.disk t stopped (StopsOf (steps_from c.args.primary.now image 1 (c.args.geometry.now.agcount - 1)) image (out.WriteFault c.in-Err.written) stopped) disk tells low
+          (λ low' left'. stops_written image (writes_of_rows bank rows) (steps_from c.args.primary.now image 1 (c.args.geometry.now.agcount - 1)) (out.WriteFault c.in-Err.written) stopped (D.left_since c.plan_backups.new.disk t stopped) same refl
+          (c.in-Err.ensures.stops (disk.tells tells) image (disk.same_contents ∙ told) t stopped low' left'))
+          left;
+      possible = λ o repairs. repairs;
+      ends = let up : D.faults c.args.disk.now ≤ D.faults c.plan_backups.new.disk = c.in-Ok.ensures.cause in
+          let part : Ends D.size D.holds D.faults D.write_faults D.writes D.tells_stops D.moment D.may_leave D.left_since c.plan_backups.new.disk c.write_parts.new.disk (out.WriteFault c.in-Err.written) = record {
+            cause = c.in-Err.ensures.cause;
+            kept = tt;
+            counted = c.in-Err.ensures.counted;
+            only_read = λ says. cc;
+            same_size = c.in-Err.ensures.size;
+            more_faults = omega (arith, c.in-Err.ensures.faults);
+            more_write_faults = (let rose = c.in-Err.ensures.cause in rose.0);
+            tells = c.in-Err.ensures.tells;
+            later = c.in-Err.ensures.later;
+          } in
+          ends_behind D.size D.holds D.faults D.write_faults D.writes D.tells_stops D.moment D.may_leave D.left_since c.args.disk.now c.plan_backups.new.disk c.write_parts.new.disk (out.WriteFault c.in-Err.written)
+          c.in-Ok.ensures.disk up part;
+    }
 
 pub plan_backups-requires-clause-sector : goal.plan_backups-requires-clause-sector
 plan_backups-requires-clause-sector g c = c.requires.sector
