@@ -42,7 +42,11 @@ pub(crate) fn run_maker<R: Threads + Sync, D: Disk, L: Library, O: Sink, E: Sink
     ensures files { L.files files.new ≡ L.files files.old }
 {
     match read_make_words(alloc, words) {
-        Ok(line) => run_line(rt, alloc, &line, disk, files, out, err, stamp, gate),
+        Ok(line) => {
+            let status = run_line(rt, alloc, &line, disk, files, out, err, stamp, gate);
+            drop(line);
+            status
+        }
         Err(fault) => end_with(out, err, make_refusal(fault)),
     }
 }

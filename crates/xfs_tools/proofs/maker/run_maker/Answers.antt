@@ -6,19 +6,19 @@ use Rattle.xfs_tools.proofs.Labels.{line_files, line_label}
 use Rattle.xfs_tools.proofs.Making.{refused_is_making, refused_made, refused_none}
 use Rattle.xfs_tools.proofs.maker.run_maker.Goals as goal
 
-pub run_line-requires-clause-label : goal.run_line-requires-clause-label
-run_line-requires-clause-label g c = λ κs lives. line_label c.args.words.now c.in-Ok.line c.in-Ok.ensures.line
+pub run_line-status-requires-clause-label : goal.run_line-status-requires-clause-label
+run_line-status-requires-clause-label g c = λ κs lives. line_label c.args.words.now c.in-Ok.line c.in-Ok.ensures.line
 
-pub run_line-requires-clause-generate : goal.run_line-requires-clause-generate
-run_line-requires-clause-generate g c = λ κs lives. line_files c.args.words.now c.in-Ok.line c.in-Ok.ensures.line
+pub run_line-status-requires-clause-generate : goal.run_line-status-requires-clause-generate
+run_line-status-requires-clause-generate g c = λ κs lives. line_files c.args.words.now c.in-Ok.line c.in-Ok.ensures.line
 
 pub returns-in-Ok : goal.returns-in-Ok
 returns-in-Ok g c =
     record {
-      made = rw (c.in-Ok.ensures.line) c.run_line.ensures.made;
-      generated = rw (c.in-Ok.ensures.line) c.run_line.ensures.generated;
-      size = c.run_line.ensures.size;
-      files = c.run_line.ensures.files;
+      made = rw (c.in-Ok.ensures.line) c.run_line-status.ensures.made;
+      generated = rw (c.in-Ok.ensures.line) c.run_line-status.ensures.generated;
+      size = c.run_line-status.ensures.size;
+      files = c.run_line-status.ensures.files;
     }
 
 pub returns-in-Err : goal.returns-in-Err
