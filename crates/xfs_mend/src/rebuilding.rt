@@ -90,54 +90,18 @@ fn rebuild_counted<R: Threads + Sync, D: Disk, G: Gate, L: Ledger>(
     ensures ends { Ends D.size D.holds D.faults D.write_faults D.writes D.tells_stops D.moment D.may_leave D.left_since disk.old disk.new result }
 {
     let mut steps = Steps::<L>::from_blank(blank);
-    rebuild_by(rt, alloc, disk, chosen, evidence, stamp, gate, &mut steps)
-}
-
-/// The same, where these steps are counted.
-fn rebuild_by<R: Threads + Sync, D: Disk, G: Gate, L: Ledger>(
-    rt: &R,
-    alloc: Global,
-    disk: &mut D,
-    chosen: &Elected,
-    evidence: Evidence,
-    stamp: &Stamp,
-    gate: &G,
-    steps: &mut Steps<L>,
-) -> Outcome
-    requires accepted { IsAcceptedSector chosen.now.sector }
-    requires stated { volume_of chosen.now.geometry ≡ stated_volume chosen.now.sector }
-    requires inside { chosen.now.geometry.dblocks ≤ D.size disk.old }
-    requires evidence { ForSome (D.holds disk.old) (λ image. IsEvidence chosen.now.geometry image evidence) }
-    ensures due { ForSome (D.holds disk.old) (λ image. IsOwed (IsDueRebuild chosen.now.geometry stamp.now image) result) }
-    ensures leaves { ForSome (D.holds disk.old) (λ image.
-        LeavesAnew (IsRepairPlan chosen.now.geometry chosen.now.sector stamp.now image evidence) image (D.holds disk.new) result) }
-    ensures stops { D.tells_stops disk.old → ForSome (D.holds disk.old) (λ image.
-        (t : ℕ) (stopped : Image) → t ≤ D.moment disk.old → D.left_since disk.new t stopped
-        → D.left_since disk.old t stopped ⊎ StopsAnew (IsRepairPlan chosen.now.geometry chosen.now.sector stamp.now image evidence) image result stopped) }
-    ensures possible { (o : Asked) → o.check ≡ false → CanCome o result }
-    ensures ends { Ends D.size D.holds D.faults D.write_faults D.writes D.tells_stops D.moment D.may_leave D.left_since disk.old disk.new result }
-{
-    let planned = plan_rebuild(rt, alloc, disk, chosen, evidence, stamp, gate, steps);
-    match planned {
-        Ok(rebuilt) => write_rebuilt(disk, rebuilt, 0),
-        Err(RebuildFault::Names(due)) => {
-            rename(rt, alloc, disk, chosen, due, stamp, gate, steps)
-        }
-        Err(RebuildFault::NoRoom(what)) => {
-            drop(planned);
-            Outcome::NoRoom(what)
-        }
-        Err(RebuildFault::ReadFault) => {
-            drop(planned);
-            Outcome::ReadFault {
-                faults: disk.faults(),
-            }
-        }
-        Err(RebuildFault::NoMemory) => {
-            drop(planned);
-            Outcome::NoMemory
-        }
-    }
+    let rebuilt = match plan_rebuild(rt, alloc, disk, chosen, evidence, stamp, gate, &mut steps) {
+        Ok(rebuilt) => rebuilt,
+        Err(RebuildFault::Names(due)) => return rename(
+            rt, alloc, disk, chosen, due, stamp, gate, &mut steps,
+        ),
+        Err(RebuildFault::NoRoom(what)) => return Outcome::NoRoom(what),
+        Err(RebuildFault::ReadFault) => return Outcome::ReadFault {
+            faults: disk.faults(),
+        },
+        Err(RebuildFault::NoMemory) => return Outcome::NoMemory,
+    };
+    write_rebuilt(disk, rebuilt, 0)
 }
 
 /// Rebuilds a volume in which a name or a directory has to change, by what is known of it. `plan_names` never says again that names
