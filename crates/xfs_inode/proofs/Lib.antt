@@ -6,3 +6,4 @@ mod Causes
 mod ForkRoots
 mod Placed
 mod Single
+mod Tested

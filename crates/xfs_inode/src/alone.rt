@@ -31,7 +31,7 @@ pub fn decide_alone(
     ensures sound { IfOk result (λ file. IfSome file (λ file. IsSound (volume_of g.now) ino file)) }
 {
     let needs = needs_of(alloc, g, ino, slot, read)?;
-    if !names_none(&needs) {
+    if !names_none(needs) {
         return Ok(None);
     }
     let file = decide_read(alloc, g, ino, slot, read, None, None, None)?;
@@ -39,10 +39,10 @@ pub fn decide_alone(
 }
 
 /// Whether a slot names no block.
-fn names_none(needs: &Needs) -> bool
-    ensures top { IsTrue result → needs.now.top ≡ None }
-    ensures attr_leaf { IsTrue result → needs.now.attr_leaf ≡ None }
-    ensures link { IsTrue result → needs.now.link ≡ None }
+fn names_none(needs: Needs) -> bool
+    ensures top { IsTrue result → needs.top ≡ None }
+    ensures attr_leaf { IsTrue result → needs.attr_leaf ≡ None }
+    ensures link { IsTrue result → needs.link ≡ None }
 {
     needs.top.is_none() && needs.attr_leaf.is_none() && needs.link.is_none()
 }

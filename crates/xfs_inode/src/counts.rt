@@ -67,14 +67,24 @@ pub fn is_off_attributes(
 fn miss(blocks: &[u64], runs: &[BlockRange]) -> bool
     ensures { result ≡ list_all (λ block. list_all (is_apart (range_of_block block)) runs.now) blocks.now }
 {
-    blocks.iter().all(|block| misses(*block, runs))
+    for block in blocks {
+        if !misses(*block, runs) {
+            return false;
+        }
+    }
+    true
 }
 
 /// Whether a block lies in none of the runs.
 fn misses(block: u64, runs: &[BlockRange]) -> bool
     ensures { result ≡ list_all (is_apart (range_of_block block)) runs.now }
 {
-    runs.iter().all(|run| is_beside(block, *run))
+    for run in runs {
+        if !is_beside(block, *run) {
+            return false;
+        }
+    }
+    true
 }
 
 /// Whether a block does not lie in a run.

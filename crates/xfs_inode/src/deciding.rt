@@ -186,7 +186,15 @@ fn with_held(
     requires link { IfSome (option_copied link) (λ block. length block ≡ 4096) }
     ensures { IfOk result (λ read. read ≡ with_held (volume_of g.now) ino core.now slot.now (option_copied attr_leaf.entry) (option_copied link.entry) held) }
 {
-    if !is_whole_fork(alloc, g, ino, core, slot, link, &held)? {
+    let whole = match is_whole_fork(alloc, g, ino, core, slot, link, &held) {
+        Ok(whole) => whole,
+        Err(_) => {
+            drop(held);
+            return Err(NoMemory);
+        }
+    };
+    if !whole {
+        drop(held);
         return Ok(FileRead::Unsound);
     }
     with_attr_fork(alloc, g, ino, core, slot, attr_leaf, link, held)
@@ -212,8 +220,13 @@ fn with_attr_fork(
     requires link { IfSome (option_copied link) (λ block. length block ≡ 4096) }
     ensures { IfOk result (λ read. read ≡ with_attrs (volume_of g.now) ino core.now slot.now (option_copied link.entry) held (attr_fork (volume_of g.now) ino core.now slot.now (option_copied attr_leaf.entry))) }
 {
-    let fork = attr_fork(alloc, g, ino, core, slot, attr_leaf)?;
-    with_attrs(alloc, g, ino, core, slot, link, held, fork)
+    match attr_fork(alloc, g, ino, core, slot, attr_leaf) {
+        Ok(fork) => with_attrs(alloc, g, ino, core, slot, link, held, fork),
+        Err(NoMemory) => {
+            drop(held);
+            Err(NoMemory)
+        }
+    }
 }
 
 /// Whether all but the attributes is that of a file.

@@ -5,7 +5,7 @@ ghost use Rattle.std.specs.Option.{option_copied};
 ghost use Rattle.xfs_geom.specs.Volumes.{volume_of};
 ghost use Rattle.xfs_inode.specs.Forks.{core_type};
 ghost use Rattle.xfs_inode.specs.Files.{file_record, has_leaf, is_off_attributes, is_counted, is_placed, no_attrs, with_attrs};
-ghost use Rattle.xfs_inode.specs.Private.Steps.{without_leaf};
+ghost use Rattle.xfs_inode.specs.Private.Steps.{by_counts, without_leaf};
 ghost use Rattle.xfs_inode.specs.declared.files.FileRead.TheVariants as Reads;
 
 use crate::attributes::AttrHeld;
@@ -79,11 +79,39 @@ fn with_fork(
     requires placed { is_placed (volume_of g.now) held ≡ true }
     ensures { IfOk result (λ read. read ≡ with_attrs (volume_of g.now) ino core.now slot.now (option_copied link.entry) held (Some fork)) }
 {
-    let settled = is_settled(alloc, g, core, &held, &fork)?;
+    match is_settled(alloc, g, core, &held, &fork) {
+        Ok(settled) => by_counts(alloc, ino, core, slot, link, held, fork, settled),
+        Err(_) => {
+            drop(held);
+            drop(fork);
+            Err(NoMemory)
+        }
+    }
+}
+
+/// The same where it is known whether its blocks are counted, and those of attributes have no other use.
+fn by_counts(
+    alloc: Global,
+    ino: u64,
+    core: &Core,
+    slot: &[u8],
+    link: Option<&[u8]>,
+    held: DataHeld,
+    fork: AttrHeld,
+    settled: bool,
+) -> Result<FileRead, NoMemory>
+    requires slot { length slot.now ≡ 512 }
+    requires link { IfSome (option_copied link) (λ block. length block ≡ 4096) }
+    requires fits { core.now.format ≡ 1 → core.now.size ≤ 336 }
+    requires short { core_type core.now ≡ 10 → core.now.format ≡ 2 → core.now.size ≤ 1024 }
+    ensures { IfOk result (λ read. read ≡ by_counts ino core.now slot.now (option_copied link.entry) held fork settled) }
+{
     if settled {
         return whole_file(alloc, ino, core, slot, link, held, fork);
     }
-    unsettled(alloc, ino, core, slot, link, held, &fork)
+    let leaf = has_leaf(&fork);
+    drop(fork);
+    unsettled(alloc, ino, core, slot, link, held, leaf)
 }
 
 /// What a slot reads as of which all reads.
@@ -114,17 +142,18 @@ fn unsettled(
     slot: &[u8],
     link: Option<&[u8]>,
     held: DataHeld,
-    fork: &AttrHeld,
+    leaf: bool,
 ) -> Result<FileRead, NoMemory>
     requires slot { length slot.now ≡ 512 }
     requires link { IfSome (option_copied link) (λ block. length block ≡ 4096) }
     requires fits { core.now.format ≡ 1 → core.now.size ≤ 336 }
     requires short { core_type core.now ≡ 10 → core.now.format ≡ 2 → core.now.size ≤ 1024 }
-    ensures { IfOk result (λ read. read ≡ without_leaf ino core.now slot.now (option_copied link.entry) held (has_leaf fork.now)) }
+    ensures { IfOk result (λ read. read ≡ without_leaf ino core.now slot.now (option_copied link.entry) held leaf) }
 {
-    if has_leaf(fork) {
+    if leaf {
         return without_attrs(alloc, ino, core, slot, link, held);
     }
+    drop(held);
     Ok(FileRead::Unsound)
 }
 

@@ -34,7 +34,10 @@ pub fn file_record(
 {
     match attr_lists(alloc, fork) {
         Ok(fork) => with_fork(alloc, ino, core, slot, link, held, fork),
-        Err(error) => Err(error),
+        Err(error) => {
+            drop(held);
+            Err(error)
+        }
     }
 }
 
@@ -56,7 +59,10 @@ fn with_fork(
 {
     match data_lists(alloc, held) {
         Ok(held) => with_data(alloc, ino, core, slot, link, held, fork),
-        Err(error) => Err(error),
+        Err(error) => {
+            drop(fork);
+            Err(error)
+        }
     }
 }
 
@@ -78,7 +84,11 @@ fn with_data(
 {
     match link_target(alloc, core, slot, link) {
         Ok(target) => Ok(record_of(ino, core, slot, held, fork, target)),
-        Err(error) => Err(error),
+        Err(error) => {
+            drop(held);
+            drop(fork);
+            Err(error)
+        }
     }
 }
 

@@ -126,7 +126,12 @@ fn are_addresses(g: &Geometry, capacity: usize, slot: &[u8]) -> bool
     requires room { 180 + 16 * capacity ≤ 512 }
     ensures { result ≡ are_addresses (volume_of g.now) capacity slot.now }
 {
-    (0..root_count(slot)).all(|i| is_address(g, root_pointer(capacity, slot, i)))
+    for i in 0..root_count(slot) {
+        if !is_address(g, root_pointer(capacity, slot, i)) {
+            return false;
+        }
+    }
+    true
 }
 
 /// Whether an address is one of the volume.
@@ -177,9 +182,11 @@ fn places_under(
     requires room { 180 + 16 * capacity ≤ 512 }
     ensures { IfOk result (λ places. places.items ≡ each_of (root_count slot.now) (place_under (volume_of g.now) capacity slot.now)) }
 {
-    (0..root_count(slot))
-        .map(|i| place_under(g, capacity, slot, i))
-        .collect(alloc)
+    let mut places = Vec::with_capacity(alloc, root_count(slot))?;
+    for i in 0..root_count(slot) {
+        places.push(place_under(g, capacity, slot, i))?;
+    }
+    Ok(places)
 }
 
 /// The keys that a root states.
@@ -188,9 +195,11 @@ fn keys_under(alloc: Global, slot: &[u8]) -> Result<Vec<u64>, AllocError>
     requires room { 180 + 8 * root_count slot.now ≤ length slot.now }
     ensures { IfOk result (λ keys. keys.items ≡ each_of (root_count slot.now) (root_key slot.now)) }
 {
-    (0..root_count(slot))
-        .map(|i| root_key(slot, i))
-        .collect(alloc)
+    let mut keys = Vec::with_capacity(alloc, root_count(slot))?;
+    for i in 0..root_count(slot) {
+        keys.push(root_key(slot, i))?;
+    }
+    Ok(keys)
 }
 
 /// The block of a child; all ones where its address lies outside the volume.

@@ -6,11 +6,16 @@ use Rattle.xfs_tree.specs.Reading.{Contents}
 use Rattle.xfs_volume.specs.declared.cores.Core.{Core}
 use Rattle.xfs_inode.specs.declared.files.FileRead.{FileRead}
 use Rattle.xfs_inode.specs.declared.files.FileRead.TheVariants as Reads
-use Rattle.xfs_inode.specs.Files.{attr_fork, data_fork, file_record, is_core, is_whole_fork, no_attrs, with_attrs, with_data}
+use Rattle.xfs_inode.specs.Files.{AttrFork, attr_fork, data_fork, file_record, has_leaf, is_core, is_whole_fork, no_attrs, with_attrs, with_data}
 
 -- a file whose attribute fork is at fault: where a leaf takes part, the attributes alone are lost
 abbrev pub without_leaf : ℕ → Core → List ℕ → Option (List ℕ) → Contents Extent → Bool → FileRead
 without_leaf ino core slot link held leaf = if leaf then Reads.FileWithoutAttrs (file_record ino core slot link held no_attrs) else Reads.Unsound
+
+-- a file by whether its blocks are counted, and those of attributes have no other use
+abbrev pub by_counts : ℕ → Core → List ℕ → Option (List ℕ) → Contents Extent → AttrFork → Bool → FileRead
+by_counts ino core slot link held fork settled =
+    if settled then Reads.File (file_record ino core slot link held fork) else without_leaf ino core slot link held (has_leaf fork)
 
 -- a file whose data fork reads
 abbrev pub with_held : Volume → ℕ → Core → List ℕ → Option (List ℕ) → Option (List ℕ) → Contents Extent → FileRead
