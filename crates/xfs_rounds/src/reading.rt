@@ -49,14 +49,20 @@ pub fn settle_round<R: Threads + Sync, D: Disk, G: Gate, L: Ledger>(
         Err(NoMemory) => return Err(RoundFault::NoMemory),
     };
     if named.slots.is_empty() {
+        drop(named);
         return Ok(());
     }
     match read_named(rt, alloc, g, disk, &named, workers, gate, steps) {
         Ok(found) => {
             settle_pieces(rt, alloc, g, bank, &named, &found, workers, gate, judged);
+            drop(found);
+            drop(named);
             Ok(())
         }
-        Err(fault) => Err(fault),
+        Err(fault) => {
+            drop(named);
+            Err(fault)
+        }
     }
 }
 

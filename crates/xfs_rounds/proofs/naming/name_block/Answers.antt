@@ -1,4 +1,4 @@
-use Rattle.std.proofs.Common.{◌≡◌, ℕ, List, [], length, get_or, sym, subst, rules}
+use Rattle.std.proofs.Common.{◌≡◌, ℕ, List, [], length, get_or, refl, sym, subst, rules}
 use Rattle.std.proofs.lemmas.List.{with_items_is}
 use Rattle.std.proofs.lemmas.Option.{get_or_from_slice_get}
 use Rattle.xfs_geom.specs.Volumes.{volume_of}
@@ -21,3 +21,24 @@ returns-in-Ok-clause-numbered c =
           (subst (λ (bytes : List ℕ). AreNamedParts v named block.place bytes left)
           (sym (get_or_from_slice_get bank block.at c.view-bytes.result.now [] c.view-bytes.ensures.block)) are);
     })
+
+pub name_parts-requires-clause-volume : goal.name_parts-requires-clause-volume
+name_parts-requires-clause-volume c = c.requires.at_hand.placed.volume
+
+pub name_parts-requires-clause-whole : goal.name_parts-requires-clause-whole
+name_parts-requires-clause-whole c = c.view-bytes.ensures.size
+
+pub name_parts-requires-clause-within : goal.name_parts-requires-clause-within
+name_parts-requires-clause-within c = c.requires.within
+
+pub returns-in-Ok-clause-placed : goal.returns-in-Ok-clause-placed
+returns-in-Ok-clause-placed c = then_ok _ _ c.name_parts.result c.name_parts.ensures.within (λ _. record { place = refl; at = refl })
+
+pub returns-in-Ok-clause-more : goal.returns-in-Ok-clause-more
+returns-in-Ok-clause-more c = c.name_parts.ensures.more
+
+pub returns-in-Ok-clause-within : goal.returns-in-Ok-clause-within
+returns-in-Ok-clause-within c = c.name_parts.ensures.within
+
+pub returns-in-Err : goal.returns-in-Err
+returns-in-Err c = record { numbered = tt; placed = tt; more = tt; within = tt }

@@ -1,4 +1,5 @@
 use Rattle.std.proofs.Common.{◌≡◌, ℕ, List, length, get_or, subst, arith, rules}
+use Rattle.std.proofs.lemmas.Result.{IfOk-from_err}
 use Rattle.xfs_geom.specs.Conversions.{inode_of}
 use Rattle.xfs_geom.specs.Volumes.{volume_of}
 use Rattle.xfs_rounds.specs.Judged.{slot_of}
@@ -35,3 +36,15 @@ returns-clause-part c =
             (c.in_ok-push_slot.ensures.naming d))),
       );
     }
+
+pub returns-in_err-push_slot : goal.returns-in_err-push_slot
+returns-in_err-push_slot c = record { part = IfOk-from_err c.from_residual.result _ c.from_residual.ensures.0; slot = IfOk-from_err c.from_residual.result _ c.from_residual.ensures.0; more = IfOk-from_err c.from_residual.result _ c.from_residual.ensures.0; within = IfOk-from_err c.from_residual.result _ c.from_residual.ensures.0 }
+
+pub push_slot-requires-clause-within : goal.push_slot-requires-clause-within
+push_slot-requires-clause-within c = c.requires.within
+
+pub returns-clause-more : goal.returns-clause-more
+returns-clause-more c = c.in_ok-push_slot.ensures.more
+
+pub returns-clause-within : goal.returns-clause-within
+returns-clause-within c = c.in_ok-push_slot.ensures.within

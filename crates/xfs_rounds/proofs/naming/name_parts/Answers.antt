@@ -1,4 +1,5 @@
 use Rattle.std.proofs.Common.{◌≡◌, ◌<◌, length, refl, arith, rules}
+use Rattle.std.proofs.lemmas.Result.{IfOk-from_err}
 use Rattle.xfs_geom.specs.Volumes.{volume_of}
 use Rattle.xfs_rounds.specs.declared.judging.SlotPart.{SlotPart}
 use Rattle.xfs_rounds.specs.Named.{IsNamedPart}
@@ -41,3 +42,21 @@ pub returns-clause-parts : goal.returns-clause-parts
 returns-clause-parts c =
     all_parts (volume_of c.args.g.now) c.loop-i.named c.args.place c.args.bytes.now c.loop-i.i c.args.parts.now c.loop-i.parts c.requires.parts (search rules) (omega arith)
     c.loop-i.invariant.numbers c.loop-i.invariant.done
+
+pub returns-in_err-name_part : goal.returns-in_err-name_part
+returns-in_err-name_part c = record { parts = IfOk-from_err c.from_residual.result _ c.from_residual.ensures.0; more = IfOk-from_err c.from_residual.result _ c.from_residual.ensures.0; within = IfOk-from_err c.from_residual.result _ c.from_residual.ensures.0 }
+
+pub returns-clause-more : goal.returns-clause-more
+returns-clause-more c = c.loop-i.invariant.more
+
+pub returns-clause-within : goal.returns-clause-within
+returns-clause-within c = c.loop-i.invariant.within
+
+pub name_part-requires-clause-volume : goal.name_part-requires-clause-volume
+name_part-requires-clause-volume c = c.requires.volume
+
+pub name_part-requires-clause-whole : goal.name_part-requires-clause-whole
+name_part-requires-clause-whole c = c.requires.whole
+
+pub name_part-requires-clause-within : goal.name_part-requires-clause-within
+name_part-requires-clause-within c = c.loop-i.invariant.within

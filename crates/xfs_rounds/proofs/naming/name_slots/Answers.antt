@@ -1,4 +1,5 @@
 use Rattle.std.proofs.Common.{ℕ, ◌<◌, length, refl, sym, subst, arith}
+use Rattle.std.proofs.lemmas.Result.{IfOk-from_err}
 use Rattle.std.specs.List.{All}
 use Rattle.xfs_geom.specs.Volumes.{volume_of}
 use Rattle.xfs_rounds.specs.declared.pieces.BlockParts.{BlockParts}
@@ -57,3 +58,6 @@ returns c =
       placed = λ i d inside. all.placed i d (omega arith);
       within = all.within;
     }
+
+pub returns-in_err-name_block : goal.returns-in_err-name_block
+returns-in_err-name_block c = record { numbered = IfOk-from_err c.from_residual.result _ c.from_residual.ensures.0; placed = IfOk-from_err c.from_residual.result _ c.from_residual.ensures.0; within = IfOk-from_err c.from_residual.result _ c.from_residual.ensures.0 }

@@ -1,4 +1,5 @@
 use Rattle.std.proofs.Common.{◌≡◌, length, sym, ap, subst, arith, rules}
+use Rattle.std.proofs.lemmas.Result.{IfOk-from_err}
 use Rattle.std.proofs.lemmas.List.{with_items_is}
 use Rattle.xfs_geom.specs.Volumes.{volume_of}
 use Rattle.xfs_rounds.specs.Judged.{AreJudged, AreListed}
@@ -21,3 +22,6 @@ returns g c =
     let size : length left ≡ length c.deref_mut.result.now = omega (arith, long, ap length c.deref_mut.ensures.value, vec.ok.0) in
     subst (AreJudged v bank round) (sym (with_items_is vec left long))
     (all_judged v bank round c.deref_mut.result.now left (subst (AreListed round) (sym c.deref_mut.ensures.value) c.in_ok-blocks.ensures) size c.judge_pieces.ensures)
+
+pub returns-in_err-blocks : goal.returns-in_err-blocks
+returns-in_err-blocks g c = IfOk-from_err c.from_residual.result _ c.from_residual.ensures.0

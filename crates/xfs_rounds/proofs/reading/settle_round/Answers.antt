@@ -1,7 +1,9 @@
-use Rattle.std.proofs.Common.{◌≡◌, ◌<◌, ℕ, length, get_or, subst, rules}
+use Rattle.std.proofs.Common.{◌≡◌, ◌+◌, ◌<◌, ℕ, length, get_or, subst, rules}
+use Rattle.xfs_disk.proofs.Reading.{reads_none}
 use Rattle.xfs_geom.specs.Volumes.{volume_of}
 use Rattle.xfs_rounds.specs.Named.{AreFoundIn}
 use Rattle.xfs_rounds.specs.Settled.{IsTold}
+use Rattle.xfs_rounds.proofs.Causes.{itself}
 use Rattle.xfs_rounds.proofs.Rounds.{all_decided, all_settled, in_place, settled_in}
 use Rattle.xfs_rounds.proofs.reading.settle_round.Goals as goal
 
@@ -38,3 +40,42 @@ returns-in-Ok-read_named-clause-settled g c = λ round listed.
     (λ i d inside. settled_in v (AreFoundIn v c.in-Ok.named c.in-Ok-read_named.found) told c.in-Ok-read_named.ensures.read bank (get_or new i d)
     (c.settle_pieces.ensures.settled i d (inside_mid i inside)))
     listed
+
+pub returns-in-Err : goal.returns-in-Err
+returns-in-Err g c =
+    let D = g.D.Disk in
+    record {
+      settled = tt;
+      cause = itself (D.faults c.args.disk.now);
+      disk = reads_none D.size D.holds D.write_faults D.writes D.tells_stops D.moment D.may_leave D.left_since c.args.disk.now;
+      reads = itself (D.reads c.args.disk.now + c.args.steps.now);
+    }
+
+pub returns-then-is_empty-clause-cause : goal.returns-then-is_empty-clause-cause
+returns-then-is_empty-clause-cause g c = itself (g.D.Disk.faults c.args.disk.now)
+
+pub returns-then-is_empty-clause-disk : goal.returns-then-is_empty-clause-disk
+returns-then-is_empty-clause-disk g c =
+    let D = g.D.Disk in
+    reads_none D.size D.holds D.write_faults D.writes D.tells_stops D.moment D.may_leave D.left_since c.args.disk.now
+
+pub returns-then-is_empty-clause-reads : goal.returns-then-is_empty-clause-reads
+returns-then-is_empty-clause-reads g c = itself (g.D.Disk.reads c.args.disk.now + c.args.steps.now)
+
+pub read_named-requires-clause-inside : goal.read_named-requires-clause-inside
+read_named-requires-clause-inside g c = λ κs lives. c.requires.inside
+
+pub read_named-requires-clause-within : goal.read_named-requires-clause-within
+read_named-requires-clause-within g c = λ κs lives. c.in-Ok.ensures.within
+
+pub settle_pieces-requires-clause-found : goal.settle_pieces-requires-clause-found
+settle_pieces-requires-clause-found g c = λ κs lives. c.in-Ok-read_named.ensures.found
+
+pub returns-in-Ok-read_named-clause-cause : goal.returns-in-Ok-read_named-clause-cause
+returns-in-Ok-read_named-clause-cause g c = c.in-Ok-read_named.ensures.cause
+
+pub returns-in-Ok-read_named-clause-disk : goal.returns-in-Ok-read_named-clause-disk
+returns-in-Ok-read_named-clause-disk g c = c.in-Ok-read_named.ensures.disk
+
+pub returns-in-Ok-read_named-clause-reads : goal.returns-in-Ok-read_named-clause-reads
+returns-in-Ok-read_named-clause-reads g c = c.in-Ok-read_named.ensures.reads

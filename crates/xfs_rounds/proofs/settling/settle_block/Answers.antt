@@ -18,3 +18,12 @@ returns-else-is_err c = elim c.match-block.branch [
       (no_fault w.settle_parts-settled.result good w.settle_parts-settled.ensures)
   | in-Err w ↦ search rules
 ]
+
+pub settle_parts-settled-requires-clause-volume : goal.settle_parts-settled-requires-clause-volume
+settle_parts-settled-requires-clause-volume c = c.requires.block.placed.volume
+
+pub settle_parts-settled-requires-clause-whole : goal.settle_parts-settled-requires-clause-whole
+settle_parts-settled-requires-clause-whole c = c.view-bytes.ensures.size
+
+pub settle_parts-settled-requires-clause-found : goal.settle_parts-settled-requires-clause-found
+settle_parts-settled-requires-clause-found c = c.requires.found

@@ -1,4 +1,5 @@
 use Rattle.std.proofs.Common.{ℕ, ◌<◌, length, sym, ap, subst, ◌∙◌, arith}
+use Rattle.std.proofs.lemmas.Result.{IfOk-from_err}
 use Rattle.std.proofs.lemmas.List.{get_or-set_other, length-set}
 use Rattle.std.proofs.lemmas.List.Elements.{All-get_or}
 use Rattle.std.proofs.Math.Seq.{map-set_same}
@@ -40,3 +41,15 @@ returns c =
       each = each_is (IsPartIn v (AreFoundIn v c.args.named.now c.args.found.now) c.args.place c.args.bytes.now) c.loop-i.parts
           (λ j d inside. c.loop-i.invariant.done j d (omega arith));
     }
+
+pub returns-in_err-settle_part : goal.returns-in_err-settle_part
+returns-in_err-settle_part c = IfOk-from_err c.from_residual.result _ c.from_residual.ensures.0
+
+pub settle_part-requires-clause-volume : goal.settle_part-requires-clause-volume
+settle_part-requires-clause-volume c = c.requires.volume
+
+pub settle_part-requires-clause-whole : goal.settle_part-requires-clause-whole
+settle_part-requires-clause-whole c = c.requires.whole
+
+pub settle_part-requires-clause-found : goal.settle_part-requires-clause-found
+settle_part-requires-clause-found c = c.requires.found

@@ -24,3 +24,6 @@ loop-i-preserved g c =
           (subst (λ (x : BlockParts). R x y) (get_or_default ys k _ d inside ∙ c.loop-i.invariant.rest k d (omega arith)) c.settle_block.ensures)
           j before;
     }
+
+pub settle_block-requires-clause-found : goal.settle_block-requires-clause-found
+settle_block-requires-clause-found g c = c.requires.found
