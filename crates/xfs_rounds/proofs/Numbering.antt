@@ -1,6 +1,6 @@
 -- The slots of a round that name other blocks are found one by one: the lists in which they stand grow, and what was said of a slot stays.
 use Rattle.std.proofs.Common.{◌≡◌, ℕ, suc, ◌+◌, ◌<◌, ◌≤◌, List, [], ◌∷◌, ◌++◌, Option, Some, None, Result, Ok, Err, Vec, Global, IfOk, OnOk, map, length, get_or, set, refl, sym, ap, subst, ◌∙◌, arith, append_assoc, append-nil, length-append}
-use Rattle.std.proofs.lemmas.List.{get_or_append_left, get_or_default, get_or-set_other, get_or-set_same}
+use Rattle.std.proofs.lemmas.List.{get_or_append_left, get_or_default, get_or_push, get_or-set_other, get_or-set_same}
 use Rattle.std.proofs.lemmas.List.Elements.{All-from_get_or, All-nil, All-weaker}
 use Rattle.std.specs.List.{All}
 use Rattle.xfs_disk.specs.declared.failed.NoMemory.{NoMemory}
@@ -54,6 +54,24 @@ more_on a b c first then = record {
   slots_are = both_more a.slots.items b.slots.items c.slots.items first.slots then.slots first.slots_are then.slots_are;
   leaves_are = both_more a.leaves.items b.leaves.items c.leaves.items first.leaves then.leaves first.leaves_are then.leaves_are;
   links_are = both_more a.links.items b.links.items c.links.items first.links then.links first.links_are then.links_are;
+}
+
+-- one slot more
+pub one_longer : (old new : List NamingSlot) (slot : NamingSlot) → new ≡ old ++ slot ∷ [] → length new ≡ length old + 1
+one_longer old new slot more = ap (λ (slots : List NamingSlot). length slots) more ∙ length-append old (slot ∷ [])
+
+pub last_is : (P : NamingSlot → Type 0) (old new : List NamingSlot) (slot d : NamingSlot) → new ≡ old ++ slot ∷ [] → P slot → P (get_or new (length old) d)
+last_is P old new slot d more is = subst P (sym (ap (λ (slots : List NamingSlot). get_or slots (length old) d) more ∙ get_or_push old slot d (length old) refl)) is
+
+pub more_by : (old new : NamedSlots) (slots : List NamingSlot) (leaves links : List ℕ) → new.slots.items ≡ old.slots.items ++ slots → new.leaves.items ≡ old.leaves.items ++ leaves
+    → new.links.items ≡ old.links.items ++ links → IsMore old new
+more_by old new slots leaves links slots_are leaves_are links_are = record {
+  slots = slots;
+  leaves = leaves;
+  links = links;
+  slots_are = slots_are;
+  leaves_are = leaves_are;
+  links_are = links_are;
 }
 
 -- a block that stands in a list stands in a longer one

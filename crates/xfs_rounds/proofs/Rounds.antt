@@ -1,5 +1,5 @@
 -- Slots and blocks, settled one after the other, and a round of them.
-use Rattle.std.proofs.Common.{◌≡◌, ℕ, ◌+◌, ◌<◌, List, [], ◌∷◌, Result, Ok, Err, OnOk, Some, false, slice_get, map, length, get_or, set, suc, inl, inr, refl, sym, ap, subst, ◌∙◌, arith}
+use Rattle.std.proofs.Common.{◌≡◌, ℕ, ◌+◌, ◌<◌, List, [], ◌∷◌, Result, Ok, Err, IfOk, OnOk, Some, false, slice_get, map, length, get_or, set, suc, inl, inr, refl, sym, ap, subst, ◌∙◌, arith}
 use Rattle.std.proofs.lemmas.Bool.{cases_lt}
 use Rattle.std.proofs.lemmas.List.{get_or-set_other, get_or-set_same, with_items_is}
 use Rattle.std.proofs.lemmas.List.Elements.{All-from_get_or, All-get_or, All-nil, All-weaker}
@@ -11,6 +11,7 @@ use Rattle.std.specs.Vec.{with_items}
 use Rattle.std.specs.declared.alloc.Global.{Global}
 use Rattle.std.specs.declared.vec.Vec.{Vec}
 use Rattle.xfs_disk.specs.Blocks.{Image}
+use Rattle.xfs_disk.specs.declared.failed.NoMemory.{NoMemory}
 use Rattle.xfs_geom.specs.Volumes.{Volume}
 use Rattle.xfs_rounds.specs.Judged.{AreListed, IsListed}
 use Rattle.xfs_rounds.specs.declared.judging.SlotFile.{SlotFile}
@@ -80,6 +81,24 @@ module _ (v : Volume) (told fewer : Image → Type 0) (less : (image : Image) �
         inodes = are.inodes;
         each = All-weaker (IsPartIn v told block.place bytes) (IsPartIn v fewer block.place bytes) (fewer_part block.place bytes) parts.items are.each;
       }) settled
+
+-- a slot that is not one of those that name other blocks is decided
+module _ (v : Volume) (told : Image → Type 0) (named : NamedSlots) where
+  other_file : (ino : ℕ) (bytes : List ℕ) (file : SlotFile) → IsNamedFile v named ino bytes file → ((number : ℕ) → file ≡ Files.Named number → ⊥) → IsFileIn v told ino bytes file
+  other_file ino bytes (Files.Decided file) is other = record { read = λ image holds. is.always image; sound = is.sound }
+  other_file ino bytes (Files.Naming read) is other = absurd is
+  other_file ino bytes (Files.Named number) is other = absurd (other number refl)
+
+  pub other_part : (block : ℕ) (bytes : List ℕ) (part : SlotPart) → IsNamedPart v named block bytes part → ((number : ℕ) → part.file ≡ Files.Named number → ⊥)
+      → IsPartIn v told block bytes part
+  other_part block bytes part is other = record { few = is.few; fact = is.fact; file = other_file _ _ part.file is.file other }
+
+-- what holds of the slots of a block by its bytes in a bank
+pub parts_held : (P : List ℕ → List SlotPart → Type 0) (bank : List (List ℕ)) (at : ℕ) (slots : Result (Vec SlotPart Global) NoMemory) (vec : Vec SlotPart Global) (bytes : List ℕ)
+    (parts : List SlotPart) → slots ≡ Ok vec → slice_get bank at ≡ Some bytes → parts ≡ vec.items → IfOk slots (λ parts. P (get_or bank at []) parts.items) → P bytes parts
+parts_held P bank at slots vec bytes parts is held same known =
+    subst (P bytes) (sym same) (subst (λ (block : List ℕ). P block vec.items) (get_or_from_slice_get bank at bytes [] held)
+    (subst (λ (r : Result (Vec SlotPart Global) NoMemory). IfOk r (λ parts. P (get_or bank at []) parts.items)) is known))
 
 -- the same blocks, named otherwise
 pub done_as : (v : Volume) (told : Image → Type 0) (bank : List (List ℕ)) {old new named_old named_new : BlockParts} → old ≡ named_old → new ≡ named_new

@@ -1,4 +1,5 @@
-use Rattle.std.proofs.Common.{◌+◌, arith}
+use Rattle.std.proofs.Common.{ℕ, ◌+◌, List, length, sym, ap, ◌∙◌, arith, take_all}
+use Rattle.std.proofs.lemmas.List.{length-replicate}
 use Rattle.xfs_disk.proofs.Reading.{reads_none}
 use Rattle.xfs_rounds.proofs.Causes.{itself}
 use Rattle.xfs_rounds.proofs.loading.load_round.Goals as goal
@@ -35,3 +36,17 @@ returns-in-Err-fill g c =
       disk = c.in-Err-fill.ensures.disk;
       reads = let more = c.in-Err-fill.ensures.reads in let step = c.tick_often.ensures in omega (arith, more, step);
     }
+
+pub fill-requires-clause-room : goal.fill-requires-clause-room
+fill-requires-clause-room g c =
+    let long = ap (λ (blocks : List (List ℕ)). length blocks) c.in-Ok.ensures ∙ length-replicate (length c.args.round.now) _ in
+    omega (arith, long)
+
+pub returns-in-Ok-fill-clause-size : goal.returns-in-Ok-fill-clause-size
+returns-in-Ok-fill-clause-size g c =
+    c.in-Ok-fill.ensures.len ∙ (ap (λ (blocks : List (List ℕ)). length blocks) c.in-Ok.ensures ∙ length-replicate (length c.args.round.now) _)
+
+pub returns-in-Ok-fill-clause-held : goal.returns-in-Ok-fill-clause-held
+returns-in-Ok-fill-clause-held g c = λ image told.
+    let long = c.in-Ok-fill.ensures.len ∙ (ap (λ (blocks : List (List ℕ)). length blocks) c.in-Ok.ensures ∙ length-replicate (length c.args.round.now) _) in
+    sym (take_all (length c.args.round.now) c.fill.new.self (omega (arith, long))) ∙ c.in-Ok-fill.ensures.filled.first image told

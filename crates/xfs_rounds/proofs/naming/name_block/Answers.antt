@@ -2,8 +2,10 @@ use Rattle.std.proofs.Common.{◌≡◌, ℕ, List, [], length, get_or, refl, sy
 use Rattle.std.proofs.lemmas.List.{with_items_is}
 use Rattle.std.proofs.lemmas.Option.{get_or_from_slice_get}
 use Rattle.xfs_geom.specs.Volumes.{volume_of}
+use Rattle.xfs_rounds.specs.Judged.{ArePartsOf}
 use Rattle.xfs_rounds.specs.Named.{AreNamedParts}
 use Rattle.xfs_rounds.proofs.Numbering.{then_ok}
+use Rattle.xfs_rounds.proofs.Rounds.{parts_held}
 use Rattle.xfs_rounds.proofs.naming.name_block.Goals as goal
 
 pub returns-in-Ok-clause-numbered : goal.returns-in-Ok-clause-numbered
@@ -42,3 +44,8 @@ returns-in-Ok-clause-within c = c.name_parts.ensures.within
 
 pub returns-in-Err : goal.returns-in-Err
 returns-in-Err c = record { numbered = tt; placed = tt; more = tt; within = tt }
+
+pub name_parts-requires-clause-parts : goal.name_parts-requires-clause-parts
+name_parts-requires-clause-parts c =
+    parts_held (ArePartsOf (volume_of c.args.g.now) c.args.block.now.place) c.args.bank.now c.args.block.now.at c.args.block.now.slots c.in-Ok.parts c.view-bytes.result.now c.deref_mut.result.now
+    c.in-Ok.is c.view-bytes.ensures.block c.deref_mut.ensures.value c.requires.at_hand.known

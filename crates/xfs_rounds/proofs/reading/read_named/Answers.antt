@@ -4,7 +4,7 @@ use Rattle.xfs_disk.proofs.Reading.{reads_on}
 use Rattle.xfs_geom.specs.Volumes.{volume_of}
 use Rattle.xfs_rounds.specs.Named.{AreTreesOf}
 use Rattle.xfs_rounds.specs.declared.named.NamingSlot.{NamingSlot}
-use Rattle.xfs_rounds.proofs.Causes.{caused_on, later_on}
+use Rattle.xfs_rounds.proofs.Causes.{below_size, caused_on, later_on}
 use Rattle.xfs_rounds.proofs.reading.read_named.Goals as goal
 
 pub returns-in-Err : goal.returns-in-Err
@@ -60,4 +60,17 @@ returns-in-Ok-load_round-2 g c =
       cause = later_on (D.faults c.args.disk.now) (D.faults c.load_round.new.disk) (D.faults c.load_round-2.new.disk) up links.cause;
       disk = on c.load_round.new.disk c.load_round-2.new.disk disk links.disk;
       reads = let first = trees.reads in let second = leaves.reads in let third = links.reads in omega (arith, first, second, third);
+    }
+
+pub load_round-requires : goal.load_round-requires
+load_round-requires g c =
+    let D = g.D.Disk in
+    record { inside = below_size _ _ c.args.g.now.dblocks (D.size c.args.disk.now) _ c.deref-2.ensures.value c.in-Ok.ensures.disk.same_size c.requires.inside c.requires.within.leaves }
+
+pub load_round-requires-2 : goal.load_round-requires-2
+load_round-requires-2 g c =
+    let D = g.D.Disk in
+    record {
+      inside = below_size _ _ c.args.g.now.dblocks (D.size c.args.disk.now) _ c.deref-3.ensures.value (c.in-Ok-load_round.ensures.disk.same_size ∙ c.in-Ok.ensures.disk.same_size)
+          c.requires.inside c.requires.within.links;
     }

@@ -1,5 +1,6 @@
-use Rattle.std.proofs.Common.{◌+◌}
+use Rattle.std.proofs.Common.{◌+◌, subst}
 use Rattle.xfs_disk.proofs.Reading.{reads_none}
+use Rattle.xfs_forest.specs.Causes.{IsForestCause}
 use Rattle.xfs_geom.specs.Volumes.{volume_of}
 use Rattle.xfs_rounds.proofs.Causes.{itself}
 use Rattle.xfs_rounds.proofs.Planting.{trees_are}
@@ -30,3 +31,25 @@ returns-in-Ok-read_forest-clause-disk g c = c.in-Ok-read_forest.ensures.disk
 
 pub returns-in-Ok-read_forest-clause-reads : goal.returns-in-Ok-read_forest-clause-reads
 returns-in-Ok-read_forest-clause-reads g c = c.in-Ok-read_forest.ensures.reads
+
+pub returns-in-Err-ReadFault : goal.returns-in-Err-ReadFault
+returns-in-Err-ReadFault g c =
+    let D = g.D.Disk in
+    let failed = c.in-Err-ReadFault.ensures in
+    record {
+      read = tt;
+      cause = subst (IsForestCause (D.faults c.args.disk.now) (D.faults c.read_forest.new.disk)) c.in-Err-ReadFault.field-0-is failed.cause;
+      disk = failed.disk;
+      reads = failed.reads;
+    }
+
+pub returns-in-Err-NoMemory : goal.returns-in-Err-NoMemory
+returns-in-Err-NoMemory g c =
+    let D = g.D.Disk in
+    let failed = c.in-Err-NoMemory.ensures in
+    record {
+      read = tt;
+      cause = subst (IsForestCause (D.faults c.args.disk.now) (D.faults c.read_forest.new.disk)) c.in-Err-NoMemory.field-0-is failed.cause;
+      disk = failed.disk;
+      reads = failed.reads;
+    }
