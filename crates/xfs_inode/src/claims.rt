@@ -49,7 +49,12 @@ fn are_extents(g: &Geometry, extents: &[Extent]) -> bool
 fn are_blocks(g: &Geometry, blocks: &[u64]) -> bool
     ensures { result ≡ are_blocks (volume_of g.now) blocks.now }
 {
-    blocks.iter().all(|block| *block < g.dblocks)
+    for block in blocks {
+        if *block >= g.dblocks {
+            return false;
+        }
+    }
+    true
 }
 
 /// Whether no block lies in two of the runs of what a data fork holds.

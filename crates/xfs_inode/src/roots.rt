@@ -115,7 +115,14 @@ fn keys_ascend(slot: &[u8]) -> bool
     requires whole { length slot.now ≡ 512 }
     ensures { result ≡ keys_ascend slot.now }
 {
-    (1..root_count(slot)).all(|i| root_key(slot, i - 1) < root_key(slot, i))
+    for i in 1..root_count(slot) {
+        let low = root_key(slot, i - 1);
+        let high = root_key(slot, i);
+        if low >= high {
+            return false;
+        }
+    }
+    true
 }
 
 /// Whether each address is one of the volume.
