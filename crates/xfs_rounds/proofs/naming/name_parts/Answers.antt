@@ -1,3 +1,4 @@
+use borrow.Author.Rules.{scaled_Fits}
 use Rattle.std.proofs.Common.{◌≡◌, ◌<◌, length, refl, arith, rules}
 use Rattle.std.proofs.lemmas.Result.{IfOk-from_err}
 use Rattle.xfs_geom.specs.Volumes.{volume_of}
@@ -60,3 +61,6 @@ name_part-requires-clause-whole c = c.requires.whole
 
 pub name_part-requires-clause-within : goal.name_part-requires-clause-within
 name_part-requires-clause-within c = c.loop-i.invariant.within
+
+pub offset_bounds-parts-i : goal.offset_bounds-parts-i
+offset_bounds-parts-i c = scaled_Fits c.loop-i.i (length c.args.parts.now) _ (omega arith) c.well_formed.1.1.1.1.0.1

@@ -1,3 +1,4 @@
+use borrow.Author.Rules.{scaled_Fits}
 use Rattle.std.proofs.Common.{◌<◌, length, get_or, set, refl, sym, subst, ◌∙◌, arith}
 use Rattle.std.proofs.lemmas.List.{get_or_default, get_or-set_other, get_or-set_same}
 use Rattle.xfs_geom.specs.Volumes.{volume_of}
@@ -25,3 +26,6 @@ loop-i-preserved g c =
           (subst (λ (x : BlockParts). R x y) (get_or_default ys k _ d inside ∙ c.loop-i.invariant.rest k d (omega arith)) c.judge_one.ensures))
           j before;
     }
+
+pub offset_bounds-piece-i : goal.offset_bounds-piece-i
+offset_bounds-piece-i g c = scaled_Fits c.loop-i.i (length c.args.piece.now) _ (omega arith) c.well_formed.1.1.1.1.1.0.1

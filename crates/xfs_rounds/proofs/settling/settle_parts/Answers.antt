@@ -1,3 +1,4 @@
+use borrow.Author.Rules.{scaled_Fits}
 use Rattle.std.proofs.Common.{ℕ, ◌<◌, length, sym, ap, subst, ◌∙◌, arith}
 use Rattle.std.proofs.lemmas.Result.{IfOk-from_err}
 use Rattle.std.proofs.lemmas.List.{get_or-set_other, length-set}
@@ -53,3 +54,6 @@ settle_part-requires-clause-whole c = c.requires.whole
 
 pub settle_part-requires-clause-found : goal.settle_part-requires-clause-found
 settle_part-requires-clause-found c = c.requires.found
+
+pub offset_bounds-parts-i : goal.offset_bounds-parts-i
+offset_bounds-parts-i c = scaled_Fits c.loop-i.i (length c.args.parts.now) _ (omega arith) c.well_formed.1.1.1.1.1.1.0.1

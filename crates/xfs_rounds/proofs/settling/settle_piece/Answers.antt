@@ -1,3 +1,4 @@
+use borrow.Author.Rules.{scaled_Fits}
 use Rattle.std.proofs.Common.{◌<◌, length, get_or, refl, subst, ◌∙◌, arith}
 use Rattle.std.proofs.lemmas.List.{get_or_default, get_or-set_other}
 use Rattle.xfs_geom.specs.Volumes.{volume_of}
@@ -27,3 +28,6 @@ loop-i-preserved g c =
 
 pub settle_block-requires-clause-found : goal.settle_block-requires-clause-found
 settle_block-requires-clause-found g c = c.requires.found
+
+pub offset_bounds-piece-i : goal.offset_bounds-piece-i
+offset_bounds-piece-i g c = scaled_Fits c.loop-i.i (length c.args.piece.now) _ (omega arith) c.well_formed.1.1.1.1.1.1.1.0.1
