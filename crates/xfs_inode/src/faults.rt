@@ -1,7 +1,7 @@
 //! Why a slot is not read.
 
 /// Why a slot is not read.
-#[derive(Clone, Copy)]
+#[derive(Clone, Copy, Debug)]
 pub enum InodeFault {
     /// A read failed.
     ReadFault,

@@ -7,7 +7,7 @@ use std::marker::Model;
 use xfs_volume::FileRec;
 
 /// What the slot of an inode and the blocks that it names read as.
-#[derive(Drop)]
+#[derive(Debug, Drop)]
 pub enum FileRead {
     /// The slot holds no file.
     Free,
@@ -23,7 +23,7 @@ pub enum FileRead {
 }
 
 /// A file that stands apart, so that it need not move with what is said of it: it has some 300 bytes. Contracts see the file.
-#[derive(Drop)]
+#[derive(Debug, Drop)]
 pub struct BoxedFile {
     file: Box<FileRec>,
 }
