@@ -31,3 +31,9 @@ pub filtered_same : {A : Type 0} (p : A → Bool) (xs : List A) (i : ℕ) (d : A
     → old ≡ filter p (take (i + 1) xs)
 filtered_same p xs i d old inside fails held =
     held ∙ sym (append-nil (filter p (take i xs))) ∙ sym (filter_next p xs i d false inside fails)
+
+-- one item more of which a list is made
+pub taken_more : {A B : Type 0} (f : B → A) (xs : List A) (i : ℕ) (d : A) (b : B) (old new : List B) → i < length xs → f b ≡ get_or xs i d → map f old ≡ take i xs
+    → new ≡ old ++ b ∷ [] → map f new ≡ take (i + 1) xs
+taken_more f xs i d b old new inside is held more =
+    ap (map f) more ∙ map-append f old (b ∷ []) ∙ ap (λ ys. ys ++ f b ∷ []) held ∙ ap (λ y. take i xs ++ y ∷ []) is ∙ sym (take_more xs i d inside)

@@ -290,3 +290,13 @@ marks_all_before ag blocks width groups old new test at now has all inside marks
         let whole : ag * width ≡ groups * width = ap (λ (n : ℕ). n * width) all in
         let low : nat_lt (at b) (ag * width) ≡ true = lt-ltb (at b) (ag * width) (omega (arith, inside b h, has.covered, whole)) in
         rw low (and_true (test b))
+
+-- the blocks of a range are marked one after another
+pub range_none : (uses : List Use) (start : ℕ) (now : Use) → MarksUses uses uses (is_in_range start (start - start)) now
+range_none uses start now = marks_none uses (is_in_range start (start - start)) now (λ b. grind (arith, nat_tests))
+
+pub range_more : (old mid : List Use) (start i : ℕ) (now : Use) → start ≤ i → i < length old → MarksUses old mid (is_in_range start (i - start)) now
+    → MarksUses old (set mid i now) (is_in_range start (i + 1 - start)) now
+range_more old mid start i now up low first =
+    marks_then old mid (set mid i now) (is_in_range start (i - start)) (λ b. b == i) (is_in_range start (i + 1 - start)) now first
+    (marks_set mid i now (omega (arith, low, first.all))) (λ b h. grind (arith, nat_tests, up))

@@ -3,6 +3,7 @@ use Rattle.xfs_geom.specs.Volumes.{volume_of}
 use Rattle.xfs_geom.specs.Conversions.{group_length}
 use Rattle.xfs_place.specs.Chunks.{asked_pool, rooms_below}
 use Rattle.xfs_place.proofs.Rooms.{number_inside, rooms_full, rooms_put, rooms_same, rooms_start}
+use Rattle.std.proofs.lemmas.Result.{IfOk-from_err}
 use Rattle.xfs_place.proofs.chunk_search.push_rooms.Goals as goal
 use Rattle.xfs_place.proofs.chunk_search.push_rooms.Goals.{then-is_room+in_ok-push, else-is_room}
 
@@ -60,3 +61,15 @@ returns c =
     let all : c.loop-i.i ≡ c.group_length.result / ask.size = omega (arith, c.loop-i-test.false, c.loop-i.auto.i-end) in
     c.loop-i.invariant
     ∙ ap (λ (n : ℕ). take ask.count (c.args.starts.now.items ++ rooms_below v (asked_pool ask) ask.size ask.from c.args.ag n)) (all ∙ ap (λ (n : ℕ). n / ask.size) c.group_length.ensures.value)
+
+pub returns-in_err-push : goal.returns-in_err-push
+returns-in_err-push c = IfOk-from_err c.from_residual.result _ c.from_residual.ensures.0
+
+pub is_room-requires-clause-size : goal.is_room-requires-clause-size
+is_room-requires-clause-size c = c.requires.size
+
+pub is_room-requires-clause-group : goal.is_room-requires-clause-group
+is_room-requires-clause-group c = c.requires.group
+
+pub is_room-requires-clause-uses : goal.is_room-requires-clause-uses
+is_room-requires-clause-uses c = c.requires.uses

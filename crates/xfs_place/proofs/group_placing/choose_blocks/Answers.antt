@@ -1,7 +1,7 @@
-use Rattle.std.proofs.Common.{◌≡◌, ◌≤◌, ℕ, length, refl, arith, Option, Some, None, Result, Ok, Err}
+use Rattle.std.proofs.Common.{◌≡◌, ◌≤◌, ℕ, length, refl, ap, arith, Option, Some, None, Result, Ok, Err}
 use Rattle.std.specs.Option.{MatchOption}
 use Rattle.std.specs.Result.{IfOk}
-use Rattle.std.proofs.lemmas.Result.{IfOk-weaker}
+use Rattle.std.proofs.lemmas.Result.{IfOk-from_err, IfOk-weaker}
 use Rattle.xfs_kinds.specs.MergedRuns.{held_at}
 use Rattle.xfs_place.specs.Choice.{IsChosenCount, IsPlacingGroup, Stands, claim_count, group, group_claimed, rank}
 use Rattle.xfs_place.proofs.Found.{claims_small, found_there}
@@ -41,3 +41,27 @@ returns-clause-chosen c =
     (λ o. (claim : ℕ → Option (ℕ × ℕ)) → IsPlacingGroup (group uses claim inner) → claim_count (group uses claim inner) ≡ c.in_ok-records.records → IsChosenCount (group uses claim inner) o)
     (IsChosenCount (group_claimed uses claims inner))
     (λ o chosen. chosen (held_at claims) c.requires.group (c.in_ok-records.ensures uses inner refl)) c.choose_count.ensures.chosen
+
+pub count_records-requires-clause-claims : goal.count_records-requires-clause-claims
+count_records-requires-clause-claims c = c.requires.claims
+
+pub returns-in_err-records-clause-there : goal.returns-in_err-records-clause-there
+returns-in_err-records-clause-there c = IfOk-from_err c.from_residual.result _ c.from_residual.ensures.0
+
+pub returns-in_err-records-clause-chosen : goal.returns-in_err-records-clause-chosen
+returns-in_err-records-clause-chosen c = IfOk-from_err c.from_residual.result _ c.from_residual.ensures.0
+
+pub returns-in_err-lowest-clause-there : goal.returns-in_err-lowest-clause-there
+returns-in_err-lowest-clause-there c = IfOk-from_err c.from_residual-in_err-lowest.result _ c.from_residual-in_err-lowest.ensures.0
+
+pub returns-in_err-lowest-clause-chosen : goal.returns-in_err-lowest-clause-chosen
+returns-in_err-lowest-clause-chosen c = IfOk-from_err c.from_residual-in_err-lowest.result _ c.from_residual-in_err-lowest.ensures.0
+
+pub choose_count-requires-clause-inner : goal.choose_count-requires-clause-inner
+choose_count-requires-clause-inner c = c.requires.inner
+
+pub choose_count-requires-clause-stands : goal.choose_count-requires-clause-stands
+choose_count-requires-clause-stands c = c.in_ok-lowest.ensures.stands
+
+pub choose_count-requires-clause-none : goal.choose_count-requires-clause-none
+choose_count-requires-clause-none c = ap length c.in_ok-lowest.ensures.none

@@ -102,3 +102,21 @@ returns-in_err-trees c = IfOk-from_err c.from_residual-in_err-trees.result _ c.f
 
 pub returns-in_err-agfl : goal.returns-in_err-agfl
 returns-in_err-agfl c = IfOk-from_err c.from_residual-in_err-agfl.result _ c.from_residual-in_err-agfl.ensures.0
+
+pub inner_size-inner-requires-clause-few : goal.inner_size-inner-requires-clause-few
+inner_size-inner-requires-clause-few c = c.requires.few.1
+
+pub inner_size-inner-requires-clause-free : goal.inner_size-inner-requires-clause-free
+inner_size-inner-requires-clause-free c = c.deref.ensures.value ∙ c.requires.free
+
+pub space_blocks-space-requires-clause-few : goal.space_blocks-space-requires-clause-few
+space_blocks-space-requires-clause-few c = omega (arith, c.requires.few)
+
+pub space_blocks-space-requires-clause-stands : goal.space_blocks-space-requires-clause-stands
+space_blocks-space-requires-clause-stands c = c.requires.taken
+
+pub cut_trees-requires-clause-sizes : goal.cut_trees-requires-clause-sizes
+cut_trees-requires-clause-sizes c = c.list_sizes-sizes.ensures.small
+
+pub all_of-requires : goal.all_of-requires
+all_of-requires c = c.list_sizes-sizes.ensures.small

@@ -12,6 +12,7 @@ use Rattle.xfs_geom.specs.declared.records.Run.{Run}
 use Rattle.xfs_place.specs.Finding.{IsOpen}
 use Rattle.xfs_place.specs.Objects.{IsAsk, ServeAsks, asks_of}
 use Rattle.xfs_place.proofs.Pieces.{asks_more, first_stays, objects_end, objects_next, objects_stop, serve_none}
+use Rattle.xfs_place.specs.Wanted.{CanBeKept}
 use Rattle.xfs_place.proofs.object_placing.keep_with.Goals as goal
 
 pub returns-then-not-branch-clause-cause : goal.returns-then-not-branch-clause-cause
@@ -109,3 +110,15 @@ returns-in_err-pool-clause-told c = IfOk-from_err c.from_residual.result _ c.fro
 
 pub returns-in_err-put_object-clause-told : goal.returns-in_err-put_object-clause-told
 returns-in_err-put_object-clause-told c = IfOk-from_err c.from_residual-in_err-put_object.result _ c.from_residual-in_err-put_object.ensures.0
+
+pub returns-then-is_empty-clause-cause : goal.returns-then-is_empty-clause-cause
+returns-then-is_empty-clause-cause c = tt
+
+pub new-requires : goal.new-requires
+new-requires c = record { kept = subst (CanBeKept (volume_of c.args.site.now.geometry.now)) (sym c.deref.ensures.value) c.requires.kept }
+
+pub returns-then-not-branch-clause-told : goal.returns-then-not-branch-clause-told
+returns-then-not-branch-clause-told c = tt
+
+pub returns-clause-cause : goal.returns-clause-cause
+returns-clause-cause c = tt

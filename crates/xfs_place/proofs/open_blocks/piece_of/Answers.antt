@@ -1,4 +1,4 @@
-use Rattle.std.proofs.Common.{◌≡◌, ℕ, ◌-◌, Some, None, min, if◌then◌else◌, Bool, ◌&&◌, nat_lt, sym, ◌∙◌, ap}
+use Rattle.std.proofs.Common.{◌≡◌, ℕ, ◌-◌, Some, None, min, if◌then◌else◌, Bool, ◌&&◌, nat_lt, sym, ◌∙◌, ap, arith}
 use Rattle.xfs_place.specs.Finding.{InRow}
 use Rattle.xfs_place.specs.Greatest.{leaves_of}
 use Rattle.xfs_place.specs.Objects.{most_extent_blocks, longest_run}
@@ -18,3 +18,27 @@ returns-clause-piece c = λ low finds.
 
 pub returns-clause-least : goal.returns-clause-least
 returns-clause-least c = least_found (InRow c.args.starts.now (leaves_of c.args.counts.now)) c.min.result c.longest_of.result c.longest_of.ensures.longest
+
+pub whole_of-requires-clause-some : goal.whole_of-requires-clause-some
+whole_of-requires-clause-some c = c.requires.some
+
+pub whole_of-requires-clause-rows : goal.whole_of-requires-clause-rows
+whole_of-requires-clause-rows c = c.requires.rows
+
+pub returns-in-Some-clause-least : goal.returns-in-Some-clause-least
+returns-in-Some-clause-least c = c.in-Some.ensures.least
+
+pub returns-in-Some-clause-front : goal.returns-in-Some-clause-front
+returns-in-Some-clause-front c = c.in-Some.ensures.front
+
+pub returns-in-Some-clause-few : goal.returns-in-Some-clause-few
+returns-in-Some-clause-few c = omega (arith, c.in-Some.ensures.blocks)
+
+pub longest_of-requires-clause-few : goal.longest_of-requires-clause-few
+longest_of-requires-clause-few c = omega (arith, c.min.ensures)
+
+pub longest_of-requires-clause-rows : goal.longest_of-requires-clause-rows
+longest_of-requires-clause-rows c = c.requires.rows
+
+pub returns-clause-front : goal.returns-clause-front
+returns-clause-front c = c.longest_of.ensures.front

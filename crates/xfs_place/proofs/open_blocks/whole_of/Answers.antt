@@ -16,3 +16,24 @@ returns-clause-whole c = λ low finds.
 
 pub returns-clause-least : goal.returns-clause-least
 returns-clause-least c = least_whole (InRow c.args.starts.now (leaves_of c.args.counts.now)) c.args.blocks c.lowest_of.result c.lowest_of.ensures.lowest c.lowest_of.ensures.blocks
+
+pub returns-then-is_too_long-clause-least : goal.returns-then-is_too_long-clause-least
+returns-then-is_too_long-clause-least c = tt
+
+pub returns-then-is_too_long-clause-front : goal.returns-then-is_too_long-clause-front
+returns-then-is_too_long-clause-front c = tt
+
+pub returns-then-is_too_long-clause-blocks : goal.returns-then-is_too_long-clause-blocks
+returns-then-is_too_long-clause-blocks c = tt
+
+pub lowest_of-requires-clause-some : goal.lowest_of-requires-clause-some
+lowest_of-requires-clause-some c = c.requires.some
+
+pub lowest_of-requires-clause-rows : goal.lowest_of-requires-clause-rows
+lowest_of-requires-clause-rows c = c.requires.rows
+
+pub returns-clause-front : goal.returns-clause-front
+returns-clause-front c = c.lowest_of.ensures.front
+
+pub returns-clause-blocks : goal.returns-clause-blocks
+returns-clause-blocks c = c.lowest_of.ensures.blocks

@@ -3,6 +3,8 @@ use Rattle.std.proofs.lemmas.Bool.{cases_eq}
 use Rattle.std.proofs.lemmas.List.{get_or_append_left, get_or_default, get_or_push}
 use Rattle.xfs_geom.specs.Volumes.{volume_of}
 use Rattle.xfs_place.specs.Finding.{unspared_part}
+use Rattle.std.proofs.lemmas.Result.{IfOk-from_err}
+use borrow.Author.Count.{falls}
 use Rattle.xfs_place.proofs.open_rows.list_unspared.Goals as goal
 
 pub loop-row-preserved : goal.loop-row-preserved
@@ -25,3 +27,12 @@ loop-row-preserved c =
             ap (λ (xs : List ℕ). get_or xs k 0) put ∙ get_or_append_left old (c.unspared_part.result ∷ []) 0 k (omega (arith, l.invariant.all, low, other)) ∙ l.invariant.each k (omega (arith, low, other))
       ];
     }
+
+pub returns-in_err-push-clause-all : goal.returns-in_err-push-clause-all
+returns-in_err-push-clause-all c = IfOk-from_err c.from_residual.result _ c.from_residual.ensures.0
+
+pub returns-in_err-push-clause-each : goal.returns-in_err-push-clause-each
+returns-in_err-push-clause-each c = IfOk-from_err c.from_residual.result _ c.from_residual.ensures.0
+
+pub loop-row-smaller : goal.loop-row-smaller
+loop-row-smaller c = falls _ c.loop-row.row c.loop-row-test.true

@@ -5,6 +5,7 @@ use Rattle.xfs_place.specs.declared.uses.Use.TheVariants.{Claimed}
 use Rattle.xfs_place.specs.Choice.{in_pool}
 use Rattle.xfs_place.specs.Pool.{MarksUses, is_pool}
 use Rattle.xfs_place.proofs.HeldRuns.{open_first, written}
+use Rattle.std.proofs.lemmas.Result.{IfOk-from_err}
 use Rattle.xfs_place.proofs.open_rows.list_uses_open.Goals as goal
 
 pub returns-clause-each : goal.returns-clause-each
@@ -31,3 +32,12 @@ few_of n blocks is small = omega (arith, is, small)
 
 pub returns-clause-few : goal.returns-clause-few
 returns-clause-few c = few_of _ c.args.site.now.geometry.now.dblocks (returns-clause-all c) c.args.site.now.geometry.now.shape.groups.small
+
+pub returns-in_err-uses-clause-all : goal.returns-in_err-uses-clause-all
+returns-in_err-uses-clause-all c = IfOk-from_err c.from_residual.result _ c.from_residual.ensures.0
+
+pub returns-in_err-uses-clause-few : goal.returns-in_err-uses-clause-few
+returns-in_err-uses-clause-few c = IfOk-from_err c.from_residual.result _ c.from_residual.ensures.0
+
+pub returns-in_err-uses-clause-each : goal.returns-in_err-uses-clause-each
+returns-in_err-uses-clause-each c = IfOk-from_err c.from_residual.result _ c.from_residual.ensures.0

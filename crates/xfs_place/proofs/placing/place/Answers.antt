@@ -21,3 +21,15 @@ returns-clause-counts c = IfOk-weaker c.place_all.result _ _ (λ placed told. to
 
 pub returns-clause-cause : goal.returns-clause-cause
 returns-clause-cause c = c.place_all.ensures.cause
+
+pub place_all-requires-clause-kept : goal.place_all-requires-clause-kept
+place_all-requires-clause-kept c = c.requires.kept
+
+pub place_all-requires-clause-asks : goal.place_all-requires-clause-asks
+place_all-requires-clause-asks c = c.requires.asks
+
+pub place_all-requires-clause-inodes : goal.place_all-requires-clause-inodes
+place_all-requires-clause-inodes c = c.requires.inodes
+
+pub place_all-requires-clause-few : goal.place_all-requires-clause-few
+place_all-requires-clause-few c = c.requires.few

@@ -112,3 +112,12 @@ returns-in_err-push-clause-placed c = IfOk-from_err c.from_residual-in_err-push.
 
 pub returns-in_err-push-clause-pool : goal.returns-in_err-push-clause-pool
 returns-in_err-push-clause-pool c = IfOk-from_err c.from_residual-in_err-push.result _ c.from_residual-in_err-push.ensures.0
+
+pub returns-in_default-clause-placed : goal.returns-in_default-clause-placed
+returns-in_default-clause-placed c = tt
+
+pub returns-in_default-clause-pool : goal.returns-in_default-clause-pool
+returns-in_default-clause-pool c = tt
+
+pub returns-clause-cause : goal.returns-clause-cause
+returns-clause-cause c = tt

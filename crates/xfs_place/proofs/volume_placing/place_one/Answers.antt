@@ -6,6 +6,7 @@ use Rattle.xfs_place.specs.Wanted.{group_in}
 use Rattle.xfs_place.proofs.GroupIs.{group_is, length_uses}
 use Rattle.xfs_place.proofs.OneGroup.{claims_here, placed_here, same_here}
 use Rattle.xfs_place.proofs.Parted.{runs_rise}
+use Rattle.std.proofs.lemmas.Result.{IfOk-from_err}
 use Rattle.xfs_place.proofs.volume_placing.place_one.Goals as goal
 
 pub place_group-requires-clause-few : goal.place_group-requires-clause-few
@@ -53,3 +54,9 @@ returns c =
 
 pub list_group-requires-clause-order : goal.list_group-requires-clause-order
 list_group-requires-clause-order c = runs_rise 0 c.args.work.now.claims.now c.requires.claims.claims'.ascend
+
+pub returns-in_err-claims : goal.returns-in_err-claims
+returns-in_err-claims c = IfOk-from_err c.from_residual.result _ c.from_residual.ensures.0
+
+pub returns-in_err-place_group : goal.returns-in_err-place_group
+returns-in_err-place_group c = IfOk-from_err c.from_residual-in_err-place_group.result _ c.from_residual-in_err-place_group.ensures.0

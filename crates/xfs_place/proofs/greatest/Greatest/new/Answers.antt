@@ -3,6 +3,7 @@ use Rattle.std.proofs.lemmas.Bool.{cases_eq, cases_lt}
 use Rattle.std.proofs.lemmas.List.{get_or_past}
 use Rattle.xfs_place.specs.Greatest.{leaves_of}
 use Rattle.xfs_place.proofs.Branches.{greatest_first}
+use Rattle.std.proofs.lemmas.Result.{IfOk-from_err}
 use Rattle.xfs_place.proofs.greatest.Greatest.new.Goals as goal
 
 pub loop-k-init : goal.loop-k-init
@@ -45,3 +46,6 @@ returns c =
         | inr past ↦ l.invariant.rest k (omega (arith, past, c.loop-k-test.false)) low ∙ sym (get_or_past numbers k 0 past)
       ];
     }
+
+pub returns-in_err-zeros : goal.returns-in_err-zeros
+returns-in_err-zeros c = IfOk-from_err c.from_residual.result _ c.from_residual.ensures.0

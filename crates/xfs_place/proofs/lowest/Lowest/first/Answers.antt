@@ -1,5 +1,7 @@
 use Rattle.std.proofs.Common.{◌≡◌, ◌≤◌, ◌<◌, ◌+◌, ℕ, Bool, true, false, length, refl, ap, arith}
 use Rattle.xfs_place.specs.Choice.{one_if}
+use Rattle.std.proofs.lemmas.Result.{IfOk-from_err}
+use borrow.Author.Count.{falls}
 use Rattle.xfs_place.proofs.lowest.Lowest.first.Goals as goal
 
 pub new-requires : goal.new-requires
@@ -31,3 +33,18 @@ loop-block-preserved c = record {
 
 pub returns-clause-stands : goal.returns-clause-stands
 returns-clause-stands c = c.loop-block.invariant.stands
+
+pub returns-in_err-lowest-clause-stands : goal.returns-in_err-lowest-clause-stands
+returns-in_err-lowest-clause-stands c = IfOk-from_err c.from_residual.result _ c.from_residual.ensures.0
+
+pub returns-in_err-lowest-clause-all : goal.returns-in_err-lowest-clause-all
+returns-in_err-lowest-clause-all c = IfOk-from_err c.from_residual.result _ c.from_residual.ensures.0
+
+pub returns-in_err-_taken-clause-stands : goal.returns-in_err-_taken-clause-stands
+returns-in_err-_taken-clause-stands c = IfOk-from_err c.from_residual-in_err-_taken.result _ c.from_residual-in_err-_taken.ensures.0
+
+pub returns-in_err-_taken-clause-all : goal.returns-in_err-_taken-clause-all
+returns-in_err-_taken-clause-all c = IfOk-from_err c.from_residual-in_err-_taken.result _ c.from_residual-in_err-_taken.ensures.0
+
+pub loop-block-smaller : goal.loop-block-smaller
+loop-block-smaller c = falls c.args.blocks c.loop-block._block c.loop-block-test.true

@@ -79,3 +79,55 @@ sum_of_space-requires-3-clause-all c = c.requires.few
 
 pub sum_of_space-requires-3-clause-stands : goal.sum_of_space-requires-3-clause-stands
 sum_of_space-requires-3-clause-stands c = c.requires.stands
+
+pub overflow_add-space : goal.overflow_add-space
+overflow_add-space c =
+    omega (arith, c.requires.space.1, c.requires.inner.1)
+
+pub overflow_add-space-2 : goal.overflow_add-space-2
+overflow_add-space-2 c =
+    omega (arith, c.requires.space.1, c.requires.inner.1)
+
+pub overflow_add-parts : goal.overflow_add-parts
+overflow_add-parts c =
+    let l = c.args.self.now in
+    let few = found_few c.args.uses.now l.blocks.items l.space.items l.inodes.items l.next l.free c.requires.stands in
+    omega (arith, few, c.len-all.ensures, l.blocks.ok.0, c.requires.few, c.requires.records)
+
+pub overflow_add-parts-2 : goal.overflow_add-parts-2
+overflow_add-parts-2 c =
+    let l = c.args.self.now in
+    let few = found_few c.args.uses.now l.blocks.items l.space.items l.inodes.items l.next l.free c.requires.stands in
+    omega (arith, few, c.len-all.ensures, l.blocks.ok.0, c.requires.few, c.requires.records, c.touches.ensures.small)
+
+pub overflow_add-parts-3 : goal.overflow_add-parts-3
+overflow_add-parts-3 c =
+    let l = c.args.self.now in
+    let few = found_few c.args.uses.now l.blocks.items l.space.items l.inodes.items l.next l.free c.requires.stands in
+    omega (arith, few, c.len-all.ensures, l.blocks.ok.0, c.requires.few, c.requires.records, c.touches.ensures.small, c.touches-2.ensures.small)
+
+pub overflow_add-more : goal.overflow_add-more
+overflow_add-more c =
+    let l = c.args.self.now in
+    let few = found_few c.args.uses.now l.blocks.items l.space.items l.inodes.items l.next l.free c.requires.stands in
+    omega (arith, few, c.len-all.ensures, l.blocks.ok.0, c.requires.few, c.requires.records, c.touches.ensures.small, c.touches-2.ensures.small, c.sum_of_inodes.ensures.small)
+
+pub overflow_add-more-2 : goal.overflow_add-more-2
+overflow_add-more-2 c =
+    let l = c.args.self.now in
+    let few = found_few c.args.uses.now l.blocks.items l.space.items l.inodes.items l.next l.free c.requires.stands in
+    omega (arith, few, c.len-all.ensures, l.blocks.ok.0, c.requires.few, c.requires.records, c.touches.ensures.small, c.touches-2.ensures.small, c.sum_of_inodes.ensures.small, c.sum_of_space.ensures.small)
+
+pub overflow_add-less : goal.overflow_add-less
+overflow_add-less c =
+    omega (arith, c.sum_of_space-2.ensures.small, c.sum_of_inodes-2.ensures.small)
+
+pub overflow_add-less-2 : goal.overflow_add-less-2
+overflow_add-less-2 c =
+    omega (arith, c.sum_of_space-2.ensures.small, c.sum_of_inodes-2.ensures.small, c.sum_of_space-3.ensures.small)
+
+pub touches-requires : goal.touches-requires
+touches-requires c = c.requires.stands
+
+pub touches-requires-2 : goal.touches-requires-2
+touches-requires-2 c = c.requires.stands

@@ -1,5 +1,7 @@
 use Rattle.std.proofs.Common.{List, ◌++◌, ◌<◌, get_or, sym, ap, subst, ◌≡◌, ◌+◌, [], ◌∷◌, length, drop, ◌∙◌, arith}
 use Rattle.std.proofs.lemmas.List.{append-nil, drop_all, take_all}
+use borrow.Author.Count.{falls}
+use Rattle.std.proofs.lemmas.Result.{IfOk-from_err}
 use Rattle.std.proofs.lemmas.Bool.{true≢false}
 use Rattle.xfs_geom.specs.Volumes.{volume_of}
 use Rattle.xfs_place.specs.Objects.{IsAsk, ServeAsks, keep_asks, spared_in}
@@ -83,3 +85,18 @@ pub put_ask-requires-clause-ask : goal.put_ask-requires-clause-ask
 put_ask-requires-clause-ask c =
     let i = c.loop-i.i in
     subst (λ (rs : List RunAsk). IsAsk (get_or rs i none_asked)) (sym c.as_slice-asks.ensures) (c.requires.asks i none_asked (subst (λ (rs : List RunAsk). i < length rs) c.as_slice-asks.ensures c.loop-i-test.true))
+
+pub put_ask-requires-clause-kept : goal.put_ask-requires-clause-kept
+put_ask-requires-clause-kept c = c.loop-i.invariant.kept
+
+pub put_ask-requires-clause-pool : goal.put_ask-requires-clause-pool
+put_ask-requires-clause-pool c = c.loop-i.invariant.pool'
+
+pub returns-in_err-count : goal.returns-in_err-count
+returns-in_err-count c = IfOk-from_err c.from_residual.result _ c.from_residual.ensures.0
+
+pub returns-in_err-push : goal.returns-in_err-push
+returns-in_err-push c = IfOk-from_err c.from_residual-in_err-push.result _ c.from_residual-in_err-push.ensures.0
+
+pub loop-i-smaller : goal.loop-i-smaller
+loop-i-smaller c = falls (length c.as_slice-asks.result.now) c.loop-i.i c.loop-i-test.true

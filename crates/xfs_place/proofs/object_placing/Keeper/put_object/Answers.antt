@@ -1,4 +1,5 @@
 use Rattle.std.proofs.Common.{◌≡◌, ◌≤◌, ◌++◌, [], ℕ, Bool, true, false, List, Some, None, if◌then◌else◌, length, take, drop, sym, ◌∙◌, ap, subst, arith}
+use Rattle.std.proofs.lemmas.Bool.{true≢false}
 use Rattle.std.proofs.lemmas.Result.{IfOk-from_err}
 use Rattle.xfs_geom.specs.Volumes.{volume_of}
 use Rattle.xfs_geom.specs.declared.records.Run.{Run}
@@ -130,3 +131,33 @@ put_asks-requires-clause-kept c = c.requires.kept
 
 pub put_asks-requires-clause-pool : goal.put_asks-requires-clause-pool
 put_asks-requires-clause-pool c = c.requires.pool
+
+pub returns-then-branch-clause-kept : goal.returns-then-branch-clause-kept
+returns-then-branch-clause-kept c = c.in_ok-put_asks.ensures.kept
+
+pub returns-then-branch-clause-pool : goal.returns-then-branch-clause-pool
+returns-then-branch-clause-pool c = c.in_ok-put_asks.ensures.pool
+
+pub returns-then-not-site-clause-kept : goal.returns-then-not-site-clause-kept
+returns-then-not-site-clause-kept c = c.in_ok-put_asks.ensures.kept
+
+pub returns-then-not-site-clause-pool : goal.returns-then-not-site-clause-pool
+returns-then-not-site-clause-pool c = c.in_ok-put_asks.ensures.pool
+
+pub returns-then-not-site-clause-cuts : goal.returns-then-not-site-clause-cuts
+returns-then-not-site-clause-cuts c = λ never. absurd (true≢false (sym never))
+
+pub give_back-requires-clause-pool : goal.give_back-requires-clause-pool
+give_back-requires-clause-pool c = c.in_ok-put_asks.ensures.pool
+
+pub put_asks-requires-2-clause-asks : goal.put_asks-requires-2-clause-asks
+put_asks-requires-2-clause-asks c = c.requires.asks
+
+pub put_asks-requires-2-clause-pool : goal.put_asks-requires-2-clause-pool
+put_asks-requires-2-clause-pool c = c.in_ok-give_back.ensures.pool
+
+pub returns-clause-kept : goal.returns-clause-kept
+returns-clause-kept c = c.in_ok-placed.ensures.kept
+
+pub returns-clause-pool : goal.returns-clause-pool
+returns-clause-pool c = c.in_ok-placed.ensures.pool

@@ -1,4 +1,5 @@
 use Rattle.std.proofs.Common.{◌≡◌, ℕ, ◌++◌, ◌∷◌, [], List, refl, sym, ◌∙◌, ap, subst}
+use Rattle.std.proofs.lemmas.Result.{IfOk-from_err}
 use Rattle.xfs_geom.specs.Volumes.{volume_of}
 use Rattle.xfs_geom.specs.declared.records.Run.{Run}
 use Rattle.xfs_place.specs.Finding.{Opens, Takes, free_in}
@@ -60,3 +61,30 @@ returns-clause-piece c =
 
 pub take-requires-clause-fits : goal.take-requires-clause-fits
 take-requires-clause-fits c = fits_all c.args.self.now.pool c.args.all c.in-Some.piece c.requires.pool.rows' c.in-Some.ensures.front
+
+pub piece-requires-clause-rows : goal.piece-requires-clause-rows
+piece-requires-clause-rows c = c.requires.pool.rows'
+
+pub returns-in_default-clause-kept : goal.returns-in_default-clause-kept
+returns-in_default-clause-kept c = c.requires.kept
+
+pub returns-in_default-clause-pool : goal.returns-in_default-clause-pool
+returns-in_default-clause-pool c = c.requires.pool
+
+pub returns-in_default-clause-few : goal.returns-in_default-clause-few
+returns-in_default-clause-few c = tt
+
+pub take-requires-clause-rows : goal.take-requires-clause-rows
+take-requires-clause-rows c = c.requires.pool.rows'
+
+pub returns-in_err-push-clause-kept : goal.returns-in_err-push-clause-kept
+returns-in_err-push-clause-kept c = IfOk-from_err c.from_residual.result _ c.from_residual.ensures.0
+
+pub returns-in_err-push-clause-pool : goal.returns-in_err-push-clause-pool
+returns-in_err-push-clause-pool c = IfOk-from_err c.from_residual.result _ c.from_residual.ensures.0
+
+pub returns-in_err-push-clause-piece : goal.returns-in_err-push-clause-piece
+returns-in_err-push-clause-piece c = IfOk-from_err c.from_residual.result _ c.from_residual.ensures.0
+
+pub returns-in_err-push-clause-few : goal.returns-in_err-push-clause-few
+returns-in_err-push-clause-few c = IfOk-from_err c.from_residual.result _ c.from_residual.ensures.0

@@ -1,4 +1,4 @@
-use Rattle.std.proofs.Common.{◌≡◌, ◌≤◌, ℕ, List, length, ap, subst, arith}
+use Rattle.std.proofs.Common.{◌≡◌, ◌≤◌, ℕ, List, length, ap, subst, arith, ◌<◌, ◌^◌, sym}
 use Rattle.std.proofs.lemmas.Result.{IfOk-from_err}
 use Rattle.xfs_geom.specs.Volumes.{volume_of}
 use Rattle.xfs_place.specs.declared.uses.Use.{Use}
@@ -55,3 +55,9 @@ returns-in_err-counts c = IfOk-from_err c.from_residual-in_err-counts.result _ c
 
 pub returns-in_err-unspared : goal.returns-in_err-unspared
 returns-in_err-unspared c = IfOk-from_err c.from_residual-in_err-unspared.result _ c.from_residual-in_err-unspared.ensures.0
+
+pub list_rows-requires : goal.list_rows-requires
+list_rows-requires c = subst (λ (us : List Use). length us < 2 ^ 32) (sym c.deref.ensures.value) c.in_ok-uses.ensures.few
+
+pub list_unspared-requires : goal.list_unspared-requires
+list_unspared-requires c = record { all = c.in_ok-rows.ensures.all }
