@@ -6,3 +6,4 @@ mod LogSeen
 mod Slots
 pub mod Inodes
 mod Sums
+mod ByGroup

@@ -98,3 +98,12 @@ four_parts f first old one two three new a b c d =
 pub three_parts : {A : Type 0} (old one two new a b c : List A) → one ≡ old ++ a → two ≡ one ++ b → new ≡ two ++ c → new ≡ old ++ ((a ++ b) ++ c)
 three_parts old one two new a b c first second third =
     third ∙ ap (λ xs. xs ++ c) (second ∙ ap (λ xs. xs ++ b) first ∙ append_assoc old a b) ∙ append_assoc old (a ++ b) c
+
+-- one item for each of a list, one more, and all
+pub mapped_at : {A B : Type 0} (f : A → B) (xs : List A) (i : ℕ) (d : A) (old new all : List B) → i < length xs → new ≡ old ++ f (get_or xs i d) ∷ []
+    → old ++ map f (drop i xs) ≡ all → new ++ map f (drop (i + 1) xs) ≡ all
+mapped_at f xs i d old new all inside more held =
+    grown old new (f (get_or xs i d) ∷ []) (map f (drop i xs)) (map f (drop (i + 1) xs)) all more (ap (map f) (drop_more xs i d inside)) held
+
+pub mapped_to_end : {A B : Type 0} (f : A → B) (xs : List A) (i : ℕ) (new all : List B) → length xs ≤ i → new ++ map f (drop i xs) ≡ all → new ≡ all
+mapped_to_end f xs i new all past held = sym (append-nil new) ∙ ap (λ rest. new ++ map f rest) (sym (none_left xs i past)) ∙ held
