@@ -19,3 +19,4 @@ pub mod PackingSeats
 pub mod PackingShares
 pub mod PackingWhole
 pub mod Rows
+mod PackingKeys

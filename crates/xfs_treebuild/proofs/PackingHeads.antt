@@ -1,13 +1,15 @@
 -- Headers of the blocks of a row, and the neighbours of a block in its row.
-use Rattle.std.proofs.Common.{◌≡◌, ℕ, ◌+◌, ◌-◌, ◌==◌, inl, inr, Bool, true, false, List, Option, None, IfSome, IsTrue, slice_get, get_or, if◌then◌else◌, sym, subst}
+use Rattle.std.proofs.Common.{◌≡◌, ℕ, ◌+◌, ◌-◌, ◌/◌, ◌==◌, ◌<◌, ◌&&◌, ◌||◌, not, nat_lt, refl, arith, inl, inr, Bool, true, false, List, Option, None, IfSome, IsTrue, slice_get, get_or, if◌then◌else◌, sym, subst}
 use Rattle.std.specs.List.{All}
+use Rattle.std.proofs.lemmas.Bool.Decides.{nat_tests}
 use Rattle.std.proofs.lemmas.Option.{slice_get_cases}
 use Rattle.xfs_word.specs.Field.{field_of}
 use Rattle.xfs_word.specs.Seal.{is_sealed}
 use Rattle.xfs_geom.specs.Volumes.{Volume}
 use Rattle.xfs_tree.specs.declared.layout.Layout.{Layout}
 use Rattle.xfs_tree.specs.Blocks.{level_of, left_of, right_of}
-use Rattle.xfs_tree.specs.Rules.{block_seal, can_hold, is_sibling}
+use Rattle.xfs_geom.specs.Conversions.{is_fixed}
+use Rattle.xfs_tree.specs.Rules.{block_seal, can_hold, is_of_root_cluster, is_sibling}
 use Rattle.xfs_treebuild.specs.Packing.{lsn_of}
 use Rattle.xfs_treebuild.specs.Private.Placed.{left_in, right_in, IsHeaded}
 
@@ -53,3 +55,13 @@ pub hold_by : (v : Volume) (l due : Layout) (owner due_owner : ℕ) (row : List 
 hold_by v l due owner due_owner row l_is owner_is all =
     subst (λ (m : Layout). All (λ place. IsTrue (can_hold v m owner place)) row) (sym l_is)
     (subst (λ (o : ℕ). All (λ place. IsTrue (can_hold v due o place)) row) (sym owner_is) all)
+
+-- a place that can hold a block of a tree lies in the volume
+first_of_four : (a b c d : Bool) → IsTrue (a && b && c && d) → a ≡ true
+first_of_four true b c d h = refl
+first_of_four false b c d h = grind (arith, h)
+
+pub held_low : (v : Volume) (l : Layout) (owner block : ℕ) → IsTrue (can_hold v l owner block) → block < v.dblocks
+held_low v l owner block held =
+    let low : nat_lt block v.dblocks ≡ true = first_of_four (nat_lt block v.dblocks) (l.long || block / v.agblocks == owner) (not (is_fixed v block)) (not (is_of_root_cluster v block)) held in
+    grind (arith, nat_tests, low)

@@ -4,7 +4,7 @@ use Rattle.xfs_geom.specs.Volumes.{volume_of}
 use Rattle.xfs_tree.specs.declared.layout.Layout.{Layout}
 use Rattle.xfs_tree.specs.Layout.{header_len}
 use Rattle.xfs_tree.specs.Rules.{can_hold}
-use Rattle.xfs_treebuild.proofs.PackingHeads.{left_held, right_held, hold_by, headed_by}
+use Rattle.xfs_treebuild.proofs.PackingHeads.{left_held, right_held, hold_by, headed_by, held_low}
 use Rattle.xfs_treebuild.proofs.Numbering.{level-fits, owner-short}
 use Rattle.xfs_tree.specs.Blocks.{capacity}
 use Rattle.xfs_treebuild.proofs.heads.put_head.Goals as goal
@@ -100,3 +100,8 @@ put_header-requires-clause-right g c = c.sibling-2.ensures.short
 
 pub returns-clause-count : goal.returns-clause-count
 returns-clause-count g c = c.put_header.ensures.count ∙ c.short_count.ensures
+
+pub put_header-requires-clause-inside : goal.put_header-requires-clause-inside
+put_header-requires-clause-inside g c =
+    let s = g.K.Kind.shape c.args.kind.now in
+    held_low (volume_of c.args.g.now) s.layout s.owner (get_or c.args.row.now c.args.i 0) (c.requires.can_hold c.args.i 0 c.requires.row)

@@ -1,4 +1,4 @@
-use Rattle.std.proofs.Common.{◌≡◌, ℕ, ◌∙◌, ap, subst}
+use Rattle.std.proofs.Common.{◌≡◌, ℕ, ◌∙◌, ap, subst, sym, ◌<◌}
 use Rattle.xfs_word.specs.Field.{KeepsBeside, KeepsParts}
 use Rattle.xfs_geom.specs.Volumes.{volume_of}
 use Rattle.xfs_tree.specs.declared.layout.Layout.{Layout}
@@ -49,3 +49,24 @@ returns-clause-put g c =
     let place = subst (λ (l : Layout). block_of_pointer v l s.owner (pointer_at l new i) ≡ seat.place) value
     (subst (λ (o : ℕ). block_of_pointer v layout o (pointer_at layout new i) ≡ seat.place) c.owner.ensures.value written) in
     child_put s v mid new i seat c.requires.inside same place c.put_keys.ensures.low c.put_keys.ensures.high c.requires.one
+
+pub put_keys-requires-clause-block : goal.put_keys-requires-clause-block
+put_keys-requires-clause-block g c = λ κs lives. c.requires.block
+
+pub put_keys-requires-clause-inside : goal.put_keys-requires-clause-inside
+put_keys-requires-clause-inside g c = λ κs lives. c.requires.inside
+
+pub put_keys-requires-clause-low : goal.put_keys-requires-clause-low
+put_keys-requires-clause-low g c = λ κs lives. c.requires.low
+
+pub put_keys-requires-clause-high : goal.put_keys-requires-clause-high
+put_keys-requires-clause-high g c = λ κs lives. c.requires.high
+
+pub put_pointer-requires-clause-sound : goal.put_pointer-requires-clause-sound
+put_pointer-requires-clause-sound g c = c.tree_layout-layout.ensures.sound
+
+pub put_pointer-requires-clause-inside : goal.put_pointer-requires-clause-inside
+put_pointer-requires-clause-inside g c = subst (λ (l : Layout). c.args.i < l.node_cap) (sym c.tree_layout-layout.ensures.value) c.requires.inside
+
+pub put_pointer-requires-clause-short : goal.put_pointer-requires-clause-short
+put_pointer-requires-clause-short g c = c.pointer_to.ensures.short

@@ -1,6 +1,7 @@
-use Rattle.std.proofs.Common.{◌≡◌, ℕ, ◌+◌, get_or, below_more, ◌<◌, ◌∙◌, ap, arith, length, subst, IsTrue}
+use Rattle.std.proofs.Common.{◌≡◌, ℕ, ◌+◌, get_or, below_more, ◌<◌, ◌∙◌, ap, arith, length, subst, IsTrue, List, refl, sym, ◌≤◌}
 use Rattle.xfs_geom.specs.Volumes.{volume_of}
-use Rattle.xfs_tree.specs.Blocks.{child_at}
+use Rattle.xfs_tree.specs.Blocks.{capacity, child_at, count_of}
+use Rattle.xfs_treebuild.specs.Exact.{KeepsBesideChildren}
 use Rattle.xfs_treebuild.specs.Packing.{block_of_part}
 use Rattle.xfs_treebuild.specs.Private.Placed.{seat_of}
 use Rattle.xfs_treebuild.proofs.PackingExact.{children_on, keys_more}
@@ -78,3 +79,21 @@ returns-clause-put g c = λ j less. c.loop-i.invariant.put j (before-end j (leng
 
 pub returns-clause-spelt : goal.returns-clause-spelt
 returns-clause-spelt g c = λ j less. c.loop-i.invariant.spelt j (before-end j (length c.args.places.now) c.loop-i.i less c.loop-i-test.false)
+
+pub loop-i-init : goal.loop-i-init
+loop-i-init g c = record {
+  put = λ k low. absurd (omega (arith, low));
+  spelt = λ k low. absurd (omega (arith, low));
+  keeps = λ a w keys pointers. refl;
+}
+
+pub seat_of-seat-requires-clause-full : goal.seat_of-seat-requires-clause-full
+seat_of-seat-requires-clause-full g c =
+    let s = g.K.Kind.shape c.args.kind.now in
+    λ κs lives. subst (λ (b : List ℕ). count_of b ≤ capacity s.layout c.args.level) (sym c.block_of_part.ensures.value) (c.requires.children c.loop-i.i c.loop-i-test.true).full
+
+pub returns-clause-keeps : goal.returns-clause-keeps
+returns-clause-keeps g c =
+    let s = g.K.Kind.shape c.args.kind.now in
+    let all : c.loop-i.i ≡ length c.args.places.now = omega (arith, c.loop-i-test.false, c.loop-i.auto.i-end) in
+    subst (λ (n : ℕ). KeepsBesideChildren s.layout n c.args.block.now c.loop-i.block) all c.loop-i.invariant.keeps

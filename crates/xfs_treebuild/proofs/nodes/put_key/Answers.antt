@@ -52,3 +52,15 @@ returns-in-Some-clause-keeps_parts g c =
     let inside : c.args.at + c.tree_layout.result.key_len ≤ length c.args.block.now = omega (arith, c.requires.inside, size) in
     let len : length c.put_key.new.bytes ≡ s.layout.key_len = ap length c.put_key.ensures ∙ kind.key_len c.in-Some.key fits in
     wrote_keeps_parts c.args.at c.args.at _ _ c.args.block.now c.put_key.new.bytes refl size inside len
+
+pub returns-in_default-clause-put : goal.returns-in_default-clause-put
+returns-in_default-clause-put g c = absurd (subst (IsKey (g.K.Kind.shape c.args.kind.now)) c.in_default.is c.requires.key)
+
+pub returns-in_default-clause-spelt : goal.returns-in_default-clause-spelt
+returns-in_default-clause-spelt g c = absurd (subst (IsKey (g.K.Kind.shape c.args.kind.now)) c.in_default.is c.requires.key)
+
+pub returns-in_default-clause-keeps : goal.returns-in_default-clause-keeps
+returns-in_default-clause-keeps g c = λ a w beside. refl
+
+pub returns-in_default-clause-keeps_parts : goal.returns-in_default-clause-keeps_parts
+returns-in_default-clause-keeps_parts g c = λ a w beside. refl
