@@ -58,3 +58,33 @@ rows-low n leaves nodes tops is nodes_most tops_most few =
     let a = leaves-few n leaves is few in
     let b = nodes-few leaves nodes nodes_most a in
     rows-sum tops nodes leaves (nodes-few nodes tops tops_most (low-few nodes b)) b a
+
+-- the same of a row of nodes, which stands above more than one block
+pub upper-some : (above : ℕ) → (above ≡ 0 → ⊥) → 1 ≤ above
+upper-some above none = omega (arith, none)
+
+pub upper-enough : (blocks above len : ℕ) → above ≤ (blocks + 503) / 504 → (above ≡ 0 → ⊥) → len ≡ blocks → above ≤ len
+upper-enough blocks above len most none is = omega (arith, most, none, is)
+
+pub upper-fit : (blocks above len : ℕ) → above ≡ nodes_above blocks → (above ≡ 0 → ⊥) → len ≡ blocks → len ≤ above * 504
+upper-fit blocks above len is none same = by_test (nat_le blocks 1) is
+  where
+    by_test : (t : Bool) → above ≡ (if t then 0 else (blocks + 503) / 504) → len ≤ above * 504
+    by_test true small = absurd (none small)
+    by_test false large = omega (arith, large, same)
+
+pub upper-few : (total len row rest : ℕ) → len ≡ row → rest + row ≤ 0x800000 → total ≡ len → total ≤ 2 ^ 24 + 2
+upper-few total len row rest is low same = omega (arith, is, low, same)
+
+pub middle-room : (base total tops nodes leaves len new : ℕ) → total ≡ tops + nodes + leaves → base + total ≤ len → new ≡ len → base + tops + nodes ≤ new
+middle-room base total tops nodes leaves len new is room same = omega (arith, is, room, same)
+
+pub top-room : (base total tops nodes leaves len middle new : ℕ) → total ≡ tops + nodes + leaves → base + total ≤ len → middle ≡ len → new ≡ middle
+    → base + 0 + tops ≤ new
+top-room base total tops nodes leaves len middle new is room same next = omega (arith, is, room, same, next)
+
+pub middle-low : (tops nodes leaves : ℕ) → tops + nodes + leaves ≤ 0x800000 → tops + nodes ≤ 0x800000
+middle-low tops nodes leaves low = omega (arith, low)
+
+pub top-low : (tops nodes leaves : ℕ) → tops + nodes + leaves ≤ 0x800000 → 0 + tops ≤ 0x800000
+top-low tops nodes leaves low = omega (arith, low)

@@ -1,12 +1,17 @@
-use Rattle.std.proofs.Common.{◌≡◌, ℕ, ◌+◌, ◌-◌, ◌<◌, List, [], ◌∷◌, ◌++◌, take, drop, length, map, Option, Some, refl, sym, ◌∙◌, ap, arith}
-use Rattle.std.proofs.lemmas.List.{take_rest, take_all}
-use Rattle.xfs_dirdata.specs.Written.{first_entries, placed_entries, offsets}
+use Rattle.std.proofs.Common.{◌≡◌, ℕ, ◌+◌, ◌-◌, ◌<◌, ◌≤◌, lit≤, List, [], ◌∷◌, ◌++◌, take, drop, length, map, Option, Some, refl, sym, ◌∙◌, ap, arith, subst}
+use Rattle.std.proofs.lemmas.List.{take_rest, take_all, drop_all, append-nil}
+use Rattle.xfs_dirdata.specs.Written.{first_entries, placed_entries, offsets, data_length, IsWritableEntry}
 use Rattle.xfs_dirindex.specs.declared.pairs.Pair.{Pair}
 use Rattle.xfs_dirindex.specs.Data.{due_pairs}
 use Rattle.xfs_dirbuild.specs.Filling.{filled_shares, all_entries, pairs_from, rest_in}
 use Rattle.xfs_dirbuild.specs.Blocks.{data_block, bank_part}
 use Rattle.xfs_dirbuild.proofs.Filled.{later, filled-some, filled-front, next-share}
 use Rattle.xfs_dirbuild.proofs.FillSteps.{left-on, room-on, pairs-on, rests-on, blocks-on, bytes-on, all-done, next-block}
+use Rattle.std.proofs.lemmas.Result.{IfOk-from_err}
+use Rattle.std.specs.List.{All}
+use Rattle.std.proofs.lemmas.List.Elements.{All-nil, All-take, All-drop}
+use Rattle.xfs_dirdata.specs.declared.records.EntryRec.{EntryRec}
+use Rattle.xfs_dirbuild.specs.Index.{IsPointer}
 use Rattle.xfs_dirbuild.proofs.filling.fill_blocks.Goals as goal
 
 pub fill_block-requires-clause-inside : goal.fill_block-requires-clause-inside
@@ -108,3 +113,76 @@ returns-clause-bytes c =
     let end = all-done ss c.loop-start.number c.loop-start.start c.args.entries.now c.loop-start.invariant.left c.loop-start-test.false c.loop-start.invariant.number_in in
     ap (bank_part c.loop-start.blocks 0) (sym end)
     ∙ (c.loop-start.invariant.bytes_are ∙ ap (map data_block) (take_all c.loop-start.number ss (omega (arith, end))))
+
+pub fill_block-requires-clause-writable : goal.fill_block-requires-clause-writable
+fill_block-requires-clause-writable c = c.requires.writable
+
+pub fill_block-requires-clause-first : goal.fill_block-requires-clause-first
+fill_block-requires-clause-first c = (c.requires.dir, c.requires.parent)
+
+pub fill_block-requires-clause-long : goal.fill_block-requires-clause-long
+fill_block-requires-clause-long c =
+    let small : data_length (first_entries (Some (c.args.dir, c.args.parent))) ≤ 32 = lit≤ tt in
+    small
+
+pub fill_block-requires-clause-low : goal.fill_block-requires-clause-low
+fill_block-requires-clause-low c = omega arith
+
+pub fill_block-requires-clause-sound : goal.fill_block-requires-clause-sound
+fill_block-requires-clause-sound c = subst (λ (ps : List Pair). All IsPointer ps) (sym c.new.ensures.items) (All-nil IsPointer)
+
+pub returns-in_err-start : goal.returns-in_err-start
+returns-in_err-start c = record {
+  pairs = IfOk-from_err c.from_residual.result _ c.from_residual.ensures.0;
+  sound = IfOk-from_err c.from_residual.result _ c.from_residual.ensures.0;
+  added = IfOk-from_err c.from_residual.result _ c.from_residual.ensures.0;
+  rests = IfOk-from_err c.from_residual.result _ c.from_residual.ensures.0;
+  blocks = IfOk-from_err c.from_residual.result _ c.from_residual.ensures.0;
+  bytes = IfOk-from_err c.from_residual.result _ c.from_residual.ensures.0;
+  count = c.fill_block.ensures.count;
+}
+
+pub fill_block-requires-in-loop-start-clause-writable : goal.fill_block-requires-in-loop-start-clause-writable
+fill_block-requires-in-loop-start-clause-writable c =
+    let es = c.args.entries.now in
+    All-take IsWritableEntry (length es - c.loop-start.start) _ (All-drop IsWritableEntry c.loop-start.start es c.requires.writable)
+
+pub fill_block-requires-in-loop-start-clause-first : goal.fill_block-requires-in-loop-start-clause-first
+fill_block-requires-in-loop-start-clause-first c = tt
+
+pub fill_block-requires-in-loop-start-clause-long : goal.fill_block-requires-in-loop-start-clause-long
+fill_block-requires-in-loop-start-clause-long c =
+    let small : 0 ≤ 32 = lit≤ tt in
+    small
+
+pub fill_block-requires-in-loop-start-clause-sound : goal.fill_block-requires-in-loop-start-clause-sound
+fill_block-requires-in-loop-start-clause-sound c = c.loop-start.invariant.sound
+
+pub returns-in_err-taken : goal.returns-in_err-taken
+returns-in_err-taken c = record {
+  pairs = IfOk-from_err c.from_residual-in_err-taken.result _ c.from_residual-in_err-taken.ensures.0;
+  sound = IfOk-from_err c.from_residual-in_err-taken.result _ c.from_residual-in_err-taken.ensures.0;
+  added = IfOk-from_err c.from_residual-in_err-taken.result _ c.from_residual-in_err-taken.ensures.0;
+  rests = IfOk-from_err c.from_residual-in_err-taken.result _ c.from_residual-in_err-taken.ensures.0;
+  blocks = IfOk-from_err c.from_residual-in_err-taken.result _ c.from_residual-in_err-taken.ensures.0;
+  bytes = IfOk-from_err c.from_residual-in_err-taken.result _ c.from_residual-in_err-taken.ensures.0;
+  count = c.fill_block-in-loop-start.ensures.count ∙ c.loop-start.invariant.count;
+}
+
+pub returns-clause-pairs : goal.returns-clause-pairs
+returns-clause-pairs c =
+    let ss = filled_shares c.args.dir c.args.parent c.args.entries.now in
+    let end = all-done ss c.loop-start.number c.loop-start.start c.args.entries.now c.loop-start.invariant.left c.loop-start-test.false c.loop-start.invariant.number_in in
+    let items = c.loop-start.stated.pairs.items in
+    let none : drop c.loop-start.number ss ≡ [] = drop_all c.loop-start.number ss (omega (arith, end)) in
+    sym (append-nil items)
+    ∙ (ap (λ (rest : List (List EntryRec)). items ++ pairs_from c.loop-start.number rest) (sym none) ∙ c.loop-start.invariant.pairs)
+
+pub returns-clause-sound : goal.returns-clause-sound
+returns-clause-sound c = c.loop-start.invariant.sound
+
+pub returns-clause-added : goal.returns-clause-added
+returns-clause-added c = omega (arith, c.loop-start.invariant.added, c.loop-start.invariant.within, c.loop-start-test.false)
+
+pub returns-clause-count : goal.returns-clause-count
+returns-clause-count c = c.loop-start.invariant.count

@@ -18,6 +18,10 @@ use Rattle.xfs_dirbuild.proofs.Filled.{due_pairs-append}
 use Rattle.xfs_word.specs.Field.{field_of}
 use Rattle.xfs_dirbuild.proofs.Magics.{single-magic}
 use Rattle.xfs_dirbuild.proofs.WholeSingle.{whole-single}
+use Rattle.std.proofs.lemmas.Result.{IfOk-from_err}
+use Rattle.std.specs.List.{All}
+use Rattle.std.proofs.lemmas.List.Elements.{All-nil}
+use Rattle.xfs_dirbuild.specs.Index.{IsPointer}
 use Rattle.xfs_dirbuild.proofs.single.build_single.Goals as goal
 
 pub returns-clause-whole : goal.returns-clause-whole
@@ -93,3 +97,110 @@ returns-clause-bytes c =
     sym (section-all new 1 (put-count old new 0 block is ∙ made))
     ∙ (section-push old new 0 0 block (put-count old new 0 block is) (omega (arith, made)) (λ k less. absurd (omega arith)) there
     ∙ ap (λ (b : List ℕ). b ∷ []) (c.in_ok-put_single.ensures.bytes ∙ ap (single_block all) (c.deref.ensures.value ∙ ranked)))
+
+pub returns-in_err-start : goal.returns-in_err-start
+returns-in_err-start c = record {
+  count = IfOk-from_err c.from_residual.result _ c.from_residual.ensures.0;
+  magics = IfOk-from_err c.from_residual.result _ c.from_residual.ensures.0;
+  whole = IfOk-from_err c.from_residual.result _ c.from_residual.ensures.0;
+  bytes = IfOk-from_err c.from_residual.result _ c.from_residual.ensures.0;
+}
+
+pub returns-in_err-add_pairs : goal.returns-in_err-add_pairs
+returns-in_err-add_pairs c = record {
+  count = IfOk-from_err c.from_residual-in_err-add_pairs.result _ c.from_residual-in_err-add_pairs.ensures.0;
+  magics = IfOk-from_err c.from_residual-in_err-add_pairs.result _ c.from_residual-in_err-add_pairs.ensures.0;
+  whole = IfOk-from_err c.from_residual-in_err-add_pairs.result _ c.from_residual-in_err-add_pairs.ensures.0;
+  bytes = IfOk-from_err c.from_residual-in_err-add_pairs.result _ c.from_residual-in_err-add_pairs.ensures.0;
+}
+
+pub returns-in_err-sort_pairs : goal.returns-in_err-sort_pairs
+returns-in_err-sort_pairs c = record {
+  count = IfOk-from_err c.from_residual-in_err-sort_pairs.result _ c.from_residual-in_err-sort_pairs.ensures.0;
+  magics = IfOk-from_err c.from_residual-in_err-sort_pairs.result _ c.from_residual-in_err-sort_pairs.ensures.0;
+  whole = IfOk-from_err c.from_residual-in_err-sort_pairs.result _ c.from_residual-in_err-sort_pairs.ensures.0;
+  bytes = IfOk-from_err c.from_residual-in_err-sort_pairs.result _ c.from_residual-in_err-sort_pairs.ensures.0;
+}
+
+pub returns-in_err-put_single : goal.returns-in_err-put_single
+returns-in_err-put_single c = record {
+  count = IfOk-from_err c.from_residual-in_err-put_single.result _ c.from_residual-in_err-put_single.ensures.0;
+  magics = IfOk-from_err c.from_residual-in_err-put_single.result _ c.from_residual-in_err-put_single.ensures.0;
+  whole = IfOk-from_err c.from_residual-in_err-put_single.result _ c.from_residual-in_err-put_single.ensures.0;
+  bytes = IfOk-from_err c.from_residual-in_err-put_single.result _ c.from_residual-in_err-put_single.ensures.0;
+}
+
+pub returns-in_err-blocks : goal.returns-in_err-blocks
+returns-in_err-blocks c = record {
+  count = IfOk-from_err c.from_residual-in_err-blocks.result _ c.from_residual-in_err-blocks.ensures.0;
+  magics = IfOk-from_err c.from_residual-in_err-blocks.result _ c.from_residual-in_err-blocks.ensures.0;
+  whole = IfOk-from_err c.from_residual-in_err-blocks.result _ c.from_residual-in_err-blocks.ensures.0;
+  bytes = IfOk-from_err c.from_residual-in_err-blocks.result _ c.from_residual-in_err-blocks.ensures.0;
+}
+
+pub add_first-requires-clause-low : goal.add_first-requires-clause-low
+add_first-requires-clause-low c = omega arith
+
+pub add_first-requires-clause-sound : goal.add_first-requires-clause-sound
+add_first-requires-clause-sound c = subst (λ (ps : List Pair). All IsPointer ps) (sym c.new-pairs.ensures.items) (All-nil IsPointer)
+
+pub add_pairs-requires-clause-writable : goal.add_pairs-requires-clause-writable
+add_pairs-requires-clause-writable c = c.requires.writable
+
+pub add_pairs-requires-clause-low : goal.add_pairs-requires-clause-low
+add_pairs-requires-clause-low c = omega arith
+
+pub add_pairs-requires-clause-inside : goal.add_pairs-requires-clause-inside
+unfolding fits_single
+add_pairs-requires-clause-inside c =
+    let begin : c.in_ok-start.start ≡ 96 = c.in_ok-start.ensures.end in
+    let fits : 96 + data_length c.args.entries.now + index_size (length c.args.entries.now) ≤ 4096 = leb-true _ _ c.requires.fits in
+    omega (arith, begin, fits)
+
+pub add_pairs-requires-clause-behind : goal.add_pairs-requires-clause-behind
+add_pairs-requires-clause-behind c =
+    let begin : c.in_ok-start.start ≡ 96 = c.in_ok-start.ensures.end in
+    omega (arith, begin)
+
+pub add_pairs-requires-clause-sound : goal.add_pairs-requires-clause-sound
+add_pairs-requires-clause-sound c = c.in_ok-start.ensures.sound
+
+pub sort_pairs-requires : goal.sort_pairs-requires
+sort_pairs-requires c = record { sound = c.in_ok-add_pairs.ensures.sound }
+
+pub put_single-requires-clause-writable : goal.put_single-requires-clause-writable
+put_single-requires-clause-writable c = c.requires.writable
+
+pub put_single-requires-clause-dir : goal.put_single-requires-clause-dir
+put_single-requires-clause-dir c = c.requires.dir
+
+pub put_single-requires-clause-parent : goal.put_single-requires-clause-parent
+put_single-requires-clause-parent c = c.requires.parent
+
+pub put_single-requires-clause-pointers : goal.put_single-requires-clause-pointers
+put_single-requires-clause-pointers c = subst (λ (ps : List Pair). All IsPointer ps) (sym c.deref.ensures.value) c.in_ok-sort_pairs.ensures.sound
+
+pub put_single-requires-clause-all : goal.put_single-requires-clause-all
+put_single-requires-clause-all c =
+    let pairs_long : length c.sort_pairs.new.pairs.items ≡ length c.args.entries.now + 2 =
+    omega (arith, c.in_ok-sort_pairs.ensures.count, c.in_ok-add_pairs.ensures.count, c.in_ok-start.ensures.count, ap length c.new-pairs.ensures.items) in
+    ap length c.deref.ensures.value ∙ pairs_long
+
+pub put_single-requires-clause-fit : goal.put_single-requires-clause-fit
+unfolding fits_single
+put_single-requires-clause-fit c =
+    let pairs_long : length c.sort_pairs.new.pairs.items ≡ length c.args.entries.now + 2 =
+    omega (arith, c.in_ok-sort_pairs.ensures.count, c.in_ok-add_pairs.ensures.count, c.in_ok-start.ensures.count, ap length c.new-pairs.ensures.items) in
+    let fits : 96 + data_length c.args.entries.now + index_size (length c.args.entries.now) ≤ 4096 = leb-true _ _ c.requires.fits in
+    let same : length c.deref.result.now ≡ length c.sort_pairs.new.pairs.items = ap length c.deref.ensures.value in
+    omega (arith, same, pairs_long, fits)
+
+pub put_block-requires-clause-inside : goal.put_block-requires-clause-inside
+put_block-requires-clause-inside c =
+    let made : length c.in_ok-blocks.blocks ≡ 1 = ap length c.in_ok-blocks.ensures in
+    omega (arith, made)
+
+pub returns-clause-count : goal.returns-clause-count
+returns-clause-count c =
+    let made : length c.in_ok-blocks.blocks ≡ 1 = ap length c.in_ok-blocks.ensures in
+    put-count c.in_ok-blocks.blocks c.put_block.new.blocks 0 c.put_single.new.block c.put_block.ensures ∙ made

@@ -6,6 +6,7 @@ use Rattle.xfs_dirdata.proofs.Spelling.{total, Lie, parts-join, number-at, part-
 use Rattle.xfs_dirbuild.specs.Filling.{all_entries}
 use Rattle.xfs_dirbuild.specs.Blocks.{pairs_bytes, area_bytes, single_block}
 use Rattle.xfs_dirbuild.proofs.BlockBytes.{part-all, pairs-part}
+use Rattle.std.proofs.lemmas.Result.{IfOk-from_err}
 use Rattle.xfs_dirbuild.proofs.single.put_single.Goals as goal
 
 pub returns-clause-bytes : goal.returns-clause-bytes
@@ -37,3 +38,33 @@ returns-clause-bytes c =
       ),
     ) in
     sym (part-all block 4096 long) ∙ (ap (part_of block 0) whole ∙ parts-join block 0 parts lie)
+
+pub returns-in_err-put_area : goal.returns-in_err-put_area
+returns-in_err-put_area c = record {
+  stands = IfOk-from_err c.from_residual.result _ c.from_residual.ensures.0;
+  bytes = IfOk-from_err c.from_residual.result _ c.from_residual.ensures.0;
+}
+
+pub put_area-requires-clause-writable : goal.put_area-requires-clause-writable
+put_area-requires-clause-writable c = c.requires.writable
+
+pub put_area-requires-clause-dir : goal.put_area-requires-clause-dir
+put_area-requires-clause-dir c = c.requires.dir
+
+pub put_area-requires-clause-parent : goal.put_area-requires-clause-parent
+put_area-requires-clause-parent c = c.requires.parent
+
+pub put_area-requires-clause-long : goal.put_area-requires-clause-long
+put_area-requires-clause-long c = c.requires.long
+
+pub put_area-requires-clause-fit : goal.put_area-requires-clause-fit
+put_area-requires-clause-fit c = omega (arith, c.requires.fit)
+
+pub put_area-requires-clause-end : goal.put_area-requires-clause-end
+put_area-requires-clause-end c = omega (arith, c.requires.long)
+
+pub put_area-requires-clause-whole : goal.put_area-requires-clause-whole
+put_area-requires-clause-whole c = omega (arith, c.requires.fit)
+
+pub put_pairs-requires-clause-pointers : goal.put_pairs-requires-clause-pointers
+put_pairs-requires-clause-pointers c = c.requires.pointers

@@ -1,14 +1,16 @@
 use Rattle.std.proofs.Common.{◌≡◌, ℕ, ◌+◌, ◌<◌, ◌≤◌, inr, List, [], length, get_or, refl, sym, ◌∙◌, ap, ap₂, subst, arith, inl}
 use Rattle.xfs_dirbuild.specs.Forms.{tree_count}
-use Rattle.xfs_dirbuild.specs.Index.{IsIndexed, leaf_places, IsTreeOf}
+use Rattle.xfs_dirbuild.specs.Index.{IsIndexed, leaf_places, IsTreeOf, IsPointer}
 use Rattle.xfs_dirbuild.specs.Blocks.{row_blocks, index_links}
 use Rattle.xfs_dirbuild.proofs.Sections.{section-same}
 use Rattle.xfs_dirbuild.proofs.TreeBytes.{row-none, rows-join, rows-are}
 use Rattle.xfs_dirbuild.proofs.Magics.{indexed-join}
 use Rattle.xfs_dirbuild.proofs.Rows.{holds-part}
 use Rattle.xfs_dirbuild.proofs.Trees.{tree-one, tree-two, tree-three}
-use Rattle.xfs_dirbuild.proofs.TreeCounts.{total-is, above-none, above-most, in-front, rows-some, rows-enough, rows-fit, rows-room, rows-low}
+use Rattle.xfs_dirbuild.proofs.TreeCounts.{total-is, above-none, above-most, in-front, rows-some, rows-enough, rows-fit, rows-room, rows-low, upper-some, upper-enough, upper-fit, upper-few, middle-room, top-room, middle-low, top-low}
 use Rattle.std.proofs.lemmas.Result.{IfOk-from_err}
+use Rattle.std.specs.List.{All}
+use Rattle.xfs_dirindex.specs.declared.pairs.Pair.{Pair}
 use Rattle.xfs_dirbuild.proofs.tree.put_tree.Goals as goal
 
 pub returns-then-nodes-eq0-clause-tree : goal.returns-then-nodes-eq0-clause-tree
@@ -319,3 +321,51 @@ put_row-requires-clause-room c =
 pub put_row-requires-clause-low : goal.put_row-requires-clause-low
 put_row-requires-clause-low c =
     rows-low (length c.args.pairs.now) c.leaf_blocks-leaves.result c.nodes_above-nodes.result c.nodes_above-tops.result c.leaf_blocks-leaves.ensures (above-most c.leaf_blocks-leaves.result c.nodes_above-nodes.result c.nodes_above-nodes.ensures) (above-most c.nodes_above-nodes.result c.nodes_above-tops.result c.nodes_above-tops.ensures) c.requires.few
+
+pub put_row-requires-2-clause-pointers : goal.put_row-requires-2-clause-pointers
+put_row-requires-2-clause-pointers c = subst (λ (ps : List Pair). All IsPointer ps) (sym c.deref.ensures.value) c.in_ok-below.ensures.pointers
+
+pub put_row-requires-2-clause-some : goal.put_row-requires-2-clause-some
+put_row-requires-2-clause-some c = upper-some c.nodes_above-nodes.result c.if-nodes-eq0.false
+
+pub put_row-requires-2-clause-enough : goal.put_row-requires-2-clause-enough
+put_row-requires-2-clause-enough c = upper-enough c.leaf_blocks-leaves.result c.nodes_above-nodes.result _ (above-most c.leaf_blocks-leaves.result c.nodes_above-nodes.result c.nodes_above-nodes.ensures) c.if-nodes-eq0.false (ap length c.deref.ensures.value ∙ c.in_ok-below.ensures.links)
+
+pub put_row-requires-2-clause-fit : goal.put_row-requires-2-clause-fit
+put_row-requires-2-clause-fit c = upper-fit c.leaf_blocks-leaves.result c.nodes_above-nodes.result _ c.nodes_above-nodes.ensures c.if-nodes-eq0.false (ap length c.deref.ensures.value ∙ c.in_ok-below.ensures.links)
+
+pub put_row-requires-2-clause-few : goal.put_row-requires-2-clause-few
+put_row-requires-2-clause-few c = upper-few (length c.deref.result.now) c.leaf_blocks-leaves.result c.leaf_blocks-leaves.result (c.nodes_above-tops.result + c.nodes_above-nodes.result) refl (rows-low (length c.args.pairs.now) c.leaf_blocks-leaves.result c.nodes_above-nodes.result c.nodes_above-tops.result c.leaf_blocks-leaves.ensures (above-most c.leaf_blocks-leaves.result c.nodes_above-nodes.result c.nodes_above-nodes.ensures) (above-most c.nodes_above-nodes.result c.nodes_above-tops.result c.nodes_above-tops.ensures) c.requires.few) (ap length c.deref.ensures.value ∙ c.in_ok-below.ensures.links)
+
+pub put_row-requires-2-clause-base : goal.put_row-requires-2-clause-base
+put_row-requires-2-clause-base c = c.requires.base
+
+pub put_row-requires-2-clause-room : goal.put_row-requires-2-clause-room
+put_row-requires-2-clause-room c = middle-room c.args.base (tree_count (length c.args.pairs.now)) c.nodes_above-tops.result c.nodes_above-nodes.result c.leaf_blocks-leaves.result (length c.args.blocks.now) (length c.put_row.new.blocks) (total-is (length c.args.pairs.now) c.leaf_blocks-leaves.result c.nodes_above-nodes.result c.nodes_above-tops.result c.leaf_blocks-leaves.ensures c.nodes_above-nodes.ensures c.nodes_above-tops.ensures) c.requires.room c.in_ok-below.ensures.count
+
+pub put_row-requires-2-clause-low : goal.put_row-requires-2-clause-low
+put_row-requires-2-clause-low c = middle-low c.nodes_above-tops.result c.nodes_above-nodes.result c.leaf_blocks-leaves.result (rows-low (length c.args.pairs.now) c.leaf_blocks-leaves.result c.nodes_above-nodes.result c.nodes_above-tops.result c.leaf_blocks-leaves.ensures (above-most c.leaf_blocks-leaves.result c.nodes_above-nodes.result c.nodes_above-nodes.ensures) (above-most c.nodes_above-nodes.result c.nodes_above-tops.result c.nodes_above-tops.ensures) c.requires.few)
+
+pub put_row-requires-3-clause-pointers : goal.put_row-requires-3-clause-pointers
+put_row-requires-3-clause-pointers c = subst (λ (ps : List Pair). All IsPointer ps) (sym c.deref-2.ensures.value) c.in_ok-upper.ensures.pointers
+
+pub put_row-requires-3-clause-some : goal.put_row-requires-3-clause-some
+put_row-requires-3-clause-some c = upper-some c.nodes_above-tops.result c.if-tops-eq0.false
+
+pub put_row-requires-3-clause-enough : goal.put_row-requires-3-clause-enough
+put_row-requires-3-clause-enough c = upper-enough c.nodes_above-nodes.result c.nodes_above-tops.result _ (above-most c.nodes_above-nodes.result c.nodes_above-tops.result c.nodes_above-tops.ensures) c.if-tops-eq0.false (ap length c.deref-2.ensures.value ∙ c.in_ok-upper.ensures.links)
+
+pub put_row-requires-3-clause-fit : goal.put_row-requires-3-clause-fit
+put_row-requires-3-clause-fit c = upper-fit c.nodes_above-nodes.result c.nodes_above-tops.result _ c.nodes_above-tops.ensures c.if-tops-eq0.false (ap length c.deref-2.ensures.value ∙ c.in_ok-upper.ensures.links)
+
+pub put_row-requires-3-clause-few : goal.put_row-requires-3-clause-few
+put_row-requires-3-clause-few c = upper-few (length c.deref-2.result.now) c.nodes_above-nodes.result c.nodes_above-nodes.result c.nodes_above-tops.result refl (middle-low c.nodes_above-tops.result c.nodes_above-nodes.result c.leaf_blocks-leaves.result (rows-low (length c.args.pairs.now) c.leaf_blocks-leaves.result c.nodes_above-nodes.result c.nodes_above-tops.result c.leaf_blocks-leaves.ensures (above-most c.leaf_blocks-leaves.result c.nodes_above-nodes.result c.nodes_above-nodes.ensures) (above-most c.nodes_above-nodes.result c.nodes_above-tops.result c.nodes_above-tops.ensures) c.requires.few)) (ap length c.deref-2.ensures.value ∙ c.in_ok-upper.ensures.links)
+
+pub put_row-requires-3-clause-base : goal.put_row-requires-3-clause-base
+put_row-requires-3-clause-base c = c.requires.base
+
+pub put_row-requires-3-clause-room : goal.put_row-requires-3-clause-room
+put_row-requires-3-clause-room c = top-room c.args.base (tree_count (length c.args.pairs.now)) c.nodes_above-tops.result c.nodes_above-nodes.result c.leaf_blocks-leaves.result (length c.args.blocks.now) (length c.put_row.new.blocks) (length c.put_row-2.new.blocks) (total-is (length c.args.pairs.now) c.leaf_blocks-leaves.result c.nodes_above-nodes.result c.nodes_above-tops.result c.leaf_blocks-leaves.ensures c.nodes_above-nodes.ensures c.nodes_above-tops.ensures) c.requires.room c.in_ok-below.ensures.count c.in_ok-upper.ensures.count
+
+pub put_row-requires-3-clause-low : goal.put_row-requires-3-clause-low
+put_row-requires-3-clause-low c = top-low c.nodes_above-tops.result c.nodes_above-nodes.result c.leaf_blocks-leaves.result (rows-low (length c.args.pairs.now) c.leaf_blocks-leaves.result c.nodes_above-nodes.result c.nodes_above-tops.result c.leaf_blocks-leaves.ensures (above-most c.leaf_blocks-leaves.result c.nodes_above-nodes.result c.nodes_above-nodes.ensures) (above-most c.nodes_above-nodes.result c.nodes_above-tops.result c.nodes_above-tops.ensures) c.requires.few)
