@@ -10,9 +10,17 @@ pub const MOUNTS: &str = "/proc/self/mountinfo";
 /// Whether a device with this number is mounted. A mount tells the number of what it shows, which may be one
 /// of its own, and names what it stands on.
 pub fn is_mounted(rt: &impl Files, mounts: &str, device: u64) -> bool {
-    mounts.lines().any(|line| {
-        number_in(line) == Some(device) || source_in(rt, line) == Some(device)
-    })
+    for line in mounts.lines() {
+        if shows(rt, line, device) {
+            return true;
+        }
+    }
+    false
+}
+
+/// Whether a line of the table tells or names a device with this number.
+fn shows(rt: &impl Files, line: &str, device: u64) -> bool {
+    number_in(line) == Some(device) || source_in(rt, line) == Some(device)
 }
 
 /// The device number in a line of the table.

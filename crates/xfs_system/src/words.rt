@@ -10,18 +10,36 @@ use xfs_disk::Word;
 /// tool where the program is called by its name, as through a link.
 pub fn read_words(rt: &impl Env, alloc: Global) -> Result<Vec<Word>, AllocError> {
     let mut words = Vec::new(alloc);
-    if let Some(name) = read_word(rt, alloc, 0)?
-        && is_tool(last_part(name.bytes()))
-    {
-        words.push(Word::from_slice(alloc, last_part(name.bytes()))?)?;
+    push_tool(rt, alloc, &mut words)?;
+    push_words(rt, alloc, &mut words)?;
+    Ok(words)
+}
+
+/// Adds the tool where the program is called by its name.
+fn push_tool(rt: &impl Env, alloc: Global, words: &mut Vec<Word>) -> Result<(), AllocError> {
+    match read_word(rt, alloc, 0)? {
+        Some(name) => push_tool_of(alloc, last_part(name.bytes()), words),
+        None => Ok(()),
     }
+}
+
+/// Adds a name where it is that of a tool.
+fn push_tool_of(alloc: Global, name: &[u8], words: &mut Vec<Word>) -> Result<(), AllocError> {
+    if is_tool(name) {
+        words.push(Word::from_slice(alloc, name)?)?;
+    }
+    Ok(())
+}
+
+/// Adds the words behind the program's name.
+fn push_words(rt: &impl Env, alloc: Global, words: &mut Vec<Word>) -> Result<(), AllocError> {
     for at in 1..usize::MAX {
         match read_word(rt, alloc, at)? {
             Some(word) => words.push(word)?,
-            None => break,
+            None => return Ok(()),
         }
     }
-    Ok(words)
+    Ok(())
 }
 
 /// Whether this is the name of a tool.
