@@ -43,3 +43,13 @@ is_inside g e lawful =
       ends = omega (arith, end);
       inside = in_group g.dblocks g.agblocks g.agcount group block e.count g.shape.groups.last few fits;
     }
+
+-- its group is one of the volume
+pub group_few : (g : Geometry) (e : Extent) → is_extent (volume_of g) e ≡ true → group_of_address g.agblklog e.start < g.agcount
+group_few g e lawful =
+    let v = volume_of g in
+    let group = group_of_address g.agblklog e.start in
+    let block = ag_block_of_address g.agblklog e.start in
+    let parts = and_parts (fits_extent e && nat_le 1 e.count && nat_le (e.offset + e.count) (2 ^ 54 - 1)) (lies_in_one_group v e.start e.count) lawful in
+    let places = and_parts (nat_lt group g.agcount) (nat_le (block + e.count) (group_length v group)) parts.1 in
+    ltb-true group g.agcount places.0
