@@ -375,8 +375,8 @@ impl<'a> Reader<'a> {
         ensures steady { OnOk result (HasEntryNames self.new) }
     {
         let parent = entry_parent(self.inside);
-        let name = copied(alloc, self.entry.name)?;
         self.names.add(parent, self.entry.name)?;
+        let name = copied(alloc, self.entry.name)?;
         self.nodes.push(ProtoNode {
             parent,
             name,
