@@ -2,9 +2,9 @@
 //!
 //! The system's tables are asked. Where one is not there, nothing is asked.
 
-use crate::mounts::{MOUNTS, device_number, is_mounted};
+use crate::mounts::{MOUNTS, device_number, is_mounted, number_of};
 use std::fs::Metadata;
-use std::os::unix::fs::{FileTypeExt, MetadataExt};
+use std::os::unix::fs::MetadataExt;
 use std::path::Path;
 use std::rt::Files;
 use std::{fs, str};
@@ -38,10 +38,13 @@ fn bears_mount<R: Files + AllocGlobal + Clone + Drop>(
         return false;
     };
     for device in devices {
-        if let Ok(device) = device
-            && stands_on(rt, device.path(), image)
-            && has_mount(rt, mounts, device.path())
-        {
+        let bears = match device {
+            Ok(device) => {
+                stands_on(rt, device.path(), image) && has_mount(rt, mounts, device.path())
+            }
+            Err(_) => false,
+        };
+        if bears {
             return true;
         }
     }
@@ -82,9 +85,11 @@ fn has_mount<R: Files + AllocGlobal + Clone + Drop>(
         return false;
     };
     for part in parts {
-        if let Ok(part) = part
-            && is_mounted_at(rt, mounts, part.path())
-        {
+        let mounted = match part {
+            Ok(part) => is_mounted_at(rt, mounts, part.path()),
+            Err(_) => false,
+        };
+        if mounted {
             return true;
         }
     }
@@ -104,15 +109,6 @@ fn number_in<R: Files + AllocGlobal>(rt: &R, device: Path<'_>) -> Option<u64> {
     let place = device.join(rt.alloc(), "dev").ok()?;
     let text = fs::read_to_string(rt, place.as_path()).ok()?;
     device_number(text.as_str())
-}
-
-/// The number of the device that a file is, if it is a block device.
-fn number_of(file: &Metadata) -> Option<u64> {
-    if file.file_type().is_block_device() {
-        Some(file.rdev())
-    } else {
-        None
-    }
 }
 
 /// Whether two are the same device or the same file.

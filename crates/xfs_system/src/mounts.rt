@@ -1,6 +1,7 @@
 //! The system's table of mounts, as a text of lines like
 //! `36 35 8:1 / /mnt rw,relatime shared:1 - xfs /dev/sda1 rw`.
 
+use std::fs::Metadata;
 use std::os::unix::fs::{FileTypeExt, MetadataExt};
 use std::rt::Files;
 
@@ -30,10 +31,19 @@ fn number_in(line: &str) -> Option<u64> {
 
 /// The number of the device that a line of the table names.
 fn source_in(rt: &impl Files, line: &str) -> Option<u64> {
+    number_of(&rt.metadata(source_of(line)?).ok()?)
+}
+
+/// What a line of the table names as what a mount stands on.
+fn source_of(line: &str) -> Option<&str> {
     let (_, behind) = line.split_once(" - ")?;
-    let source = rt.metadata(behind.split(' ').nth(1)?).ok()?;
-    if source.file_type().is_block_device() {
-        Some(source.rdev())
+    behind.split(' ').nth(1)
+}
+
+/// The number of the device that a file is, if it is a block device.
+pub fn number_of(file: &Metadata) -> Option<u64> {
+    if file.file_type().is_block_device() {
+        Some(file.rdev())
     } else {
         None
     }
