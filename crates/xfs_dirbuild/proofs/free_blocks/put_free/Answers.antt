@@ -33,10 +33,11 @@ returns-clause-bytes c =
     let old = c.args.block.now in
     let values = c.args.values.now in
     let n = length c.args.values.now in
-    let long : length c.put32-4.new.bytes ≡ 4096 = omega arith in
+    let long : length c.put32-4.new.bytes ≡ 4096 = c.put32-4.auto.bytes ∙ (c.put32-3.auto.bytes ∙ (c.put32-2.auto.bytes ∙ (c.put32.auto.bytes ∙ (c.put_values.auto.block ∙ c.requires.long)))) in
+    let room = λ (k : ℕ) (low : k ≤ 4096). subst (λ (m : ℕ). k ≤ m) (sym long) low in
     let all : AreBytes block = record { below = λ k. omega (arith, c.type_inv.block k) } in
-    let seal : part_of c.args.block.now 4 44 ≡ zeros 44 = blank-part 4096 old 4 44 c.requires.blank (omega arith) in
-    let pad : part_of c.args.block.now 60 4 ≡ zeros 4 = blank-part 4096 old 60 4 c.requires.blank (omega arith) in
+    let seal : part_of c.args.block.now 4 44 ≡ zeros 44 = blank-part 4096 old 4 44 c.requires.blank (lit≤ tt) in
+    let pad : part_of c.args.block.now 60 4 ≡ zeros 4 = blank-part 4096 old 60 4 c.requires.blank (lit≤ tt) in
     let rest : part_of c.args.block.now (64 + 2 * length c.args.values.now) (4032 - 2 * length c.args.values.now) ≡ zeros (4032 - 2 * length c.args.values.now) =
     blank-part 4096 old (64 + 2 * n) (4032 - 2 * n) c.requires.blank (omega arith) in
     let stands = returns-clause-stands c in
@@ -46,19 +47,19 @@ returns-clause-bytes c =
     ∷ (2 * n, values_bytes values) ∷ (4032 - 2 * n, zeros (4032 - 2 * n)) ∷ [] in
     let whole : 4096 ≡ total parts = omega arith in
     let lie : Lie block 0 parts = (
-      number-part block 0 4 0x58444633 all (omega arith) stands.magic,
+      number-part block 0 4 0x58444633 all (room 4 (lit≤ tt)) stands.magic,
       (
         (c.put32-4.ensures.keeps_parts 4 44 (inl (lit≤ tt)) ∙ (c.put32-3.ensures.keeps_parts 4 44 (inl (lit≤ tt)) ∙ (c.put32-2.ensures.keeps_parts 4 44 (inl (lit≤ tt)) ∙ (c.put32.ensures.keeps_parts 4 44 (inr (lit≤ tt)) ∙ (c.put_values.ensures.keeps_parts 4 44 (inl (lit≤ tt)) ∙ seal))))),
         (
-          number-part block 48 4 c.args.first all (omega arith) stands.first_is,
+          number-part block 48 4 c.args.first all (room 52 (lit≤ tt)) stands.first_is,
           (
-            number-part block 52 4 n all (omega arith) stands.count,
+            number-part block 52 4 n all (room 56 (lit≤ tt)) stands.count,
             (
-              number-part block 56 4 n all (omega arith) stands.used,
+              number-part block 56 4 n all (room 60 (lit≤ tt)) stands.used,
               (
                 (c.put32-4.ensures.keeps_parts 60 4 (inr (lit≤ tt)) ∙ (c.put32-3.ensures.keeps_parts 60 4 (inr (lit≤ tt)) ∙ (c.put32-2.ensures.keeps_parts 60 4 (inr (lit≤ tt)) ∙ (c.put32.ensures.keeps_parts 60 4 (inr (lit≤ tt)) ∙ (c.put_values.ensures.keeps_parts 60 4 (inl (lit≤ tt)) ∙ pad))))),
                 (
-                  values-part block 64 values all (omega arith) stands.values_are,
+                  values-part block 64 values all (room (64 + 2 * n) (fits n c.requires.most)) stands.values_are,
                   (
                     (c.put32-4.ensures.keeps_parts (64 + 2 * n) (4032 - 2 * n) (inr (far 60 n (lit≤ tt))) ∙ (c.put32-3.ensures.keeps_parts (64 + 2 * n) (4032 - 2 * n) (inr (far 56 n (lit≤ tt))) ∙ (c.put32-2.ensures.keeps_parts (64 + 2 * n) (4032 - 2 * n) (inr (far 52 n (lit≤ tt))) ∙ (c.put32.ensures.keeps_parts (64 + 2 * n) (4032 - 2 * n) (inr (far 4 n (lit≤ tt))) ∙ (c.put_values.ensures.keeps_parts (64 + 2 * n) (4032 - 2 * n) (inr first) ∙ rest))))),
                     tt,

@@ -33,10 +33,11 @@ returns-clause-bytes c =
     let old = c.args.block.now in
     let pairs = c.args.pairs.now in
     let n = length c.args.pairs.now in
-    let long : length c.put_pairs.new.block ≡ 4096 = omega arith in
+    let long : length c.put_pairs.new.block ≡ 4096 = c.put_pairs.auto.block ∙ (c.put16-3.auto.bytes ∙ (c.put16-2.auto.bytes ∙ (c.put16.auto.bytes ∙ (c.put32-2.auto.bytes ∙ (c.put32.auto.bytes ∙ c.requires.long))))) in
+    let room = λ (k : ℕ) (low : k ≤ 4096). subst (λ (m : ℕ). k ≤ m) (sym long) low in
     let all : AreBytes block = record { below = λ k. omega (arith, c.type_inv.block k) } in
-    let seal : part_of c.args.block.now 10 46 ≡ zeros 46 = blank-part 4096 old 10 46 c.requires.blank (omega arith) in
-    let pad : part_of c.args.block.now 60 4 ≡ zeros 4 = blank-part 4096 old 60 4 c.requires.blank (omega arith) in
+    let seal : part_of c.args.block.now 10 46 ≡ zeros 46 = blank-part 4096 old 10 46 c.requires.blank (lit≤ tt) in
+    let pad : part_of c.args.block.now 60 4 ≡ zeros 4 = blank-part 4096 old 60 4 c.requires.blank (lit≤ tt) in
     let rest : part_of c.args.block.now (64 + 8 * length c.args.pairs.now) (4032 - 8 * length c.args.pairs.now) ≡ zeros (4032 - 8 * length c.args.pairs.now) =
     blank-part 4096 old (64 + 8 * n) (4032 - 8 * n) c.requires.blank (omega arith) in
     let parts : List (ℕ × List ℕ) =
@@ -46,21 +47,21 @@ returns-clause-bytes c =
     let here = returns-clause-stands c in
     let first : 64 + 8 * n ≤ 64 + 8 * n = omega arith in
     let lie : Lie block 0 parts = (
-      number-part block 0 4 c.args.next all (omega arith) here.forw,
+      number-part block 0 4 c.args.next all (room 4 (lit≤ tt)) here.forw,
       (
-        number-part block 4 4 c.args.before all (omega arith) here.back,
+        number-part block 4 4 c.args.before all (room 8 (lit≤ tt)) here.back,
         (
-          number-part block 8 2 (magic_of_level c.args.level) all (omega arith) here.magic,
+          number-part block 8 2 (magic_of_level c.args.level) all (room 10 (lit≤ tt)) here.magic,
           (
             (c.put_pairs.ensures.keeps_parts 10 46 (inl (lit≤ tt)) ∙ (c.put16-3.ensures.keeps_parts 10 46 (inl (lit≤ tt)) ∙ (c.put16-2.ensures.keeps_parts 10 46 (inl (lit≤ tt)) ∙ (c.put16.ensures.keeps_parts 10 46 (inr (lit≤ tt)) ∙ (c.put32-2.ensures.keeps_parts 10 46 (inr (lit≤ tt)) ∙ (c.put32.ensures.keeps_parts 10 46 (inr (lit≤ tt)) ∙ seal)))))),
             (
-              number-part block 56 2 n all (omega arith) here.count,
+              number-part block 56 2 n all (room 58 (lit≤ tt)) here.count,
               (
-                number-part block 58 2 c.args.level all (omega arith) here.stated,
+                number-part block 58 2 c.args.level all (room 60 (lit≤ tt)) here.stated,
                 (
                   (c.put_pairs.ensures.keeps_parts 60 4 (inl (lit≤ tt)) ∙ (c.put16-3.ensures.keeps_parts 60 4 (inr (lit≤ tt)) ∙ (c.put16-2.ensures.keeps_parts 60 4 (inr (lit≤ tt)) ∙ (c.put16.ensures.keeps_parts 60 4 (inr (lit≤ tt)) ∙ (c.put32-2.ensures.keeps_parts 60 4 (inr (lit≤ tt)) ∙ (c.put32.ensures.keeps_parts 60 4 (inr (lit≤ tt)) ∙ pad)))))),
                   (
-                    pairs-part block 64 pairs all (omega arith) c.put_pairs.ensures.pairs,
+                    pairs-part block 64 pairs all (room (64 + 8 * n) (fits n c.requires.most)) c.put_pairs.ensures.pairs,
                     (
                       (c.put_pairs.ensures.keeps_parts (64 + 8 * n) (4032 - 8 * n) (inr first) ∙ (c.put16-3.ensures.keeps_parts (64 + 8 * n) (4032 - 8 * n) (inr (far 60 n (lit≤ tt))) ∙ (c.put16-2.ensures.keeps_parts (64 + 8 * n) (4032 - 8 * n) (inr (far 58 n (lit≤ tt))) ∙ (c.put16.ensures.keeps_parts (64 + 8 * n) (4032 - 8 * n) (inr (far 10 n (lit≤ tt))) ∙ (c.put32-2.ensures.keeps_parts (64 + 8 * n) (4032 - 8 * n) (inr (far 8 n (lit≤ tt))) ∙ (c.put32.ensures.keeps_parts (64 + 8 * n) (4032 - 8 * n) (inr (far 4 n (lit≤ tt))) ∙ rest)))))),
                       tt,
