@@ -77,8 +77,8 @@ returns-clause-whole c =
     whole-leaf c.args.dir c.args.parent (data_count es) es new placed pairs c.requires.names (sym count)
     (data_count-bound es c.requires.writable c.requires.few) long
     (λ k less.
-    let low : k < c.data_count-data.result = omega (arith, value) in
-    let inside : k < length ss = omega (arith, count) in
+    let low : k < c.data_count-data.result = subst (λ (n : ℕ). k < n) (sym value) less in
+    let inside : k < length ss = subst (λ (n : ℕ). k < n) (sym count) less in
     subst (λ (b : List ℕ). IsBuiltDataBlock (get_or ss k []) b) (sym (put-beside old new d k block is (inl low))) (c.in_ok-stated.ensures.blocks k inside))
     leaf fit
     (subst (λ (ps : List Pair). IsPermutation ps pairs) c.in_ok-stated.ensures.pairs c.in_ok-sort_pairs.ensures.moved)
@@ -99,7 +99,7 @@ returns-clause-magics c =
     let inside : c.data_count-data.result < length c.fill_blocks.new.blocks = omega (arith, c.in_ok-stated.ensures.count, made) in
     record {
       data_blocks = λ k less.
-          let low : k < c.data_count-data.result = omega (arith, value) in
+          let low : k < c.data_count-data.result = subst (λ (n : ℕ). k < n) (sym value) less in
           data-magic (get_or new k []) (subst (λ (b : List ℕ). IsBuiltDataBlock (get_or ss k []) b) (sym (put-beside old new d k block is (inl low)))
           (c.in_ok-stated.ensures.blocks k (omega (arith, count)))).magic;
       index_blocks = λ k less.

@@ -12,7 +12,7 @@ use Rattle.xfs_dirbuild.specs.Blocks.{data_block, index_tree_blocks, free_index_
 use Rattle.xfs_dirbuild.proofs.InRank.{ranked-is}
 use Rattle.xfs_dirbuild.proofs.Sections.{section-join, section-same, section-all}
 use Rattle.xfs_dirbuild.proofs.Rows.{holds-part}
-use Rattle.xfs_dirbuild.proofs.TreeCounts.{total-is, above-most}
+use Rattle.xfs_dirbuild.proofs.TreeCounts.{total-is, above-most, in-front}
 use Rattle.xfs_dirbuild.proofs.FillSteps.{shares-count, data_count-bound}
 use Rattle.xfs_dirbuild.proofs.Magics.{data-magic, free-magic}
 use Rattle.xfs_dirbuild.proofs.WholeNode.{whole-node}
@@ -60,6 +60,9 @@ put_free_blocks-requires-clause-room c =
     let blocks : value_blocks (length c.deref-2.result.now) ≡ c.value_blocks.result = ap value_blocks values ∙ sym c.value_blocks.ensures in
     omega (arith, made, blocks, c.in_ok-stated.ensures.count, c.in_ok-put_tree.ensures.count)
 
+behind-sum : (a k b n : ℕ) → b ≡ n → k < n → a + k < a + b
+behind-sum a k b n is less = omega (arith, is, less)
+
 tree-small : (n : ℕ) → n ≤ 16777218 → tree_count n ≤ 0x800000
 tree-small n few =
     let leaves = leaf_blocks n in
@@ -92,19 +95,19 @@ returns-clause-whole c =
     ap length c.in_ok-blocks.ensures ∙ length-replicate all (replicate 4096 0) in
     let frees : c.value_blocks.result ≡ value_blocks (data_count c.args.entries.now) = c.value_blocks.ensures ∙ ap value_blocks value in
     let new_long : length c.put_free_blocks.new.blocks ≡ data_count es + tree_count (length c.args.entries.now + 2) + value_blocks (data_count es) =
-    c.put_free_blocks.ensures.count ∙ (c.in_ok-put_tree.ensures.count ∙ (c.in_ok-stated.ensures.count ∙ (made ∙ omega (arith, value, index, frees)))) in
+    c.put_free_blocks.ensures.count ∙ (c.in_ok-put_tree.ensures.count ∙ (c.in_ok-stated.ensures.count ∙ (made ∙ sym (three-sum _ _ _ _ _ _ value index frees)))) in
     let rests : c.deref-2.result.now ≡ map rest_in ss = c.deref-2.ensures.value ∙ c.in_ok-stated.ensures.rests in
     let deref : c.deref.result.now ≡ c.sort_pairs.new.pairs.items = c.deref.ensures.value in
-    let pairs_long : length c.sort_pairs.new.pairs.items ≡ length c.args.entries.now + 2 = omega (arith, c.in_ok-stated.ensures.added, c.in_ok-sort_pairs.ensures.count) in
+    let pairs_long : length c.sort_pairs.new.pairs.items ≡ length c.args.entries.now + 2 = c.in_ok-sort_pairs.ensures.count ∙ c.in_ok-stated.ensures.added in
     let size : tree_count (length c.deref.result.now) ≡ tree_count (length c.args.entries.now + 2) = ap tree_count (ap length deref ∙ pairs_long) in
     let values_long : length c.deref-2.result.now ≡ data_count es = ap length rests ∙ (length-map ss rest_in ∙ count) in
     let small = data_count-bound es c.requires.writable c.requires.few in
     whole-node c.args.dir c.args.parent (data_count es) (tree_count (length c.args.entries.now + 2)) (value_blocks (data_count es)) es new placed pairs c.requires.names (sym count)
     small (tree-small (length c.args.entries.now + 2) (omega (arith, c.requires.few))) refl new_long
     (λ k less.
-    let inside : k < length ss = omega (arith, count) in
-    let low : k < c.data_count-data.result + c.tree_count-index.result = omega (arith, value) in
-    let front : k < c.data_count-data.result = omega (arith, value) in
+    let inside : k < length ss = subst (λ (n : ℕ). k < n) (sym count) less in
+    let low : k < c.data_count-data.result + c.tree_count-index.result = in-front k c.data_count-data.result c.tree_count-index.result (subst (λ (n : ℕ). k < n) (sym value) less) in
+    let front : k < c.data_count-data.result = subst (λ (n : ℕ). k < n) (sym value) less in
     subst (λ (b : List ℕ). IsBuiltDataBlock (get_or ss k []) b) (sym (c.put_free_blocks.ensures.others k low ∙ c.in_ok-put_tree.ensures.others k front))
     (c.in_ok-stated.ensures.blocks k inside))
     (λ ms holds.
@@ -117,8 +120,8 @@ returns-clause-whole c =
     (subst (λ (t : ℕ). IsTreeOf ms t c.deref.result.now) size (c.in_ok-put_tree.ensures.tree ms mine)))
     (λ k less.
     let blocks : value_blocks (length c.deref-2.result.now) ≡ value_blocks (data_count es) = ap value_blocks values_long in
-    let inside : k < value_blocks (length c.deref-2.result.now) = omega (arith, blocks) in
-    let place : c.data_count-data.result + c.tree_count-index.result + k ≡ data_count es + tree_count (length c.args.entries.now + 2) + k = omega (arith, value, index) in
+    let inside : k < value_blocks (length c.deref-2.result.now) = subst (λ (n : ℕ). k < n) (sym blocks) less in
+    let place : c.data_count-data.result + c.tree_count-index.result + k ≡ data_count es + tree_count (length c.args.entries.now + 2) + k = ap₂ (λ (a b : ℕ). a + b + k) value index in
     subst (λ (p : ℕ). IsBuiltFreeBlock (2016 * k) (values_in (map rest_in ss) k) (get_or new p [])) place
     (subst (λ (vs : List ℕ). IsBuiltFreeBlock (2016 * k) (values_in vs k) (get_or new (c.data_count-data.result + c.tree_count-index.result + k) [])) rests
     (c.put_free_blocks.ensures.blocks k inside)))
@@ -135,24 +138,24 @@ returns-clause-magics c =
     let index : c.tree_count-index.result ≡ tree_count (length c.args.entries.now + 2) = c.tree_count-index.ensures in
     let rests : c.deref-2.result.now ≡ map rest_in ss = c.deref-2.ensures.value ∙ c.in_ok-stated.ensures.rests in
     let deref : c.deref.result.now ≡ c.sort_pairs.new.pairs.items = c.deref.ensures.value in
-    let pairs_long : length c.sort_pairs.new.pairs.items ≡ length c.args.entries.now + 2 = omega (arith, c.in_ok-stated.ensures.added, c.in_ok-sort_pairs.ensures.count) in
+    let pairs_long : length c.sort_pairs.new.pairs.items ≡ length c.args.entries.now + 2 = c.in_ok-sort_pairs.ensures.count ∙ c.in_ok-stated.ensures.added in
     let size : tree_count (length c.deref.result.now) ≡ tree_count (length c.args.entries.now + 2) = ap tree_count (ap length deref ∙ pairs_long) in
     let values_long : length c.deref-2.result.now ≡ data_count es = ap length rests ∙ (length-map ss rest_in ∙ count) in
     let blocks : value_blocks (length c.deref-2.result.now) ≡ value_blocks (data_count es) = ap value_blocks values_long in
     record {
       data_blocks = λ k less.
-          let low : k < c.data_count-data.result + c.tree_count-index.result = omega (arith, value) in
-          let front : k < c.data_count-data.result = omega (arith, value) in
+          let low : k < c.data_count-data.result + c.tree_count-index.result = in-front k c.data_count-data.result c.tree_count-index.result (subst (λ (n : ℕ). k < n) (sym value) less) in
+          let front : k < c.data_count-data.result = subst (λ (n : ℕ). k < n) (sym value) less in
           data-magic (get_or new k []) (subst (λ (b : List ℕ). IsBuiltDataBlock (get_or ss k []) b) (sym (c.put_free_blocks.ensures.others k low ∙ c.in_ok-put_tree.ensures.others k front))
-          (c.in_ok-stated.ensures.blocks k (omega (arith, count)))).magic;
+          (c.in_ok-stated.ensures.blocks k (subst (λ (n : ℕ). k < n) (sym count) less))).magic;
       index_blocks = λ k less.
-          let low : c.data_count-data.result + k < c.data_count-data.result + c.tree_count-index.result = omega (arith, index) in
-          let inside : k < tree_count (length c.deref.result.now) = omega (arith, size) in
+          let low : c.data_count-data.result + k < c.data_count-data.result + c.tree_count-index.result = behind-sum c.data_count-data.result k c.tree_count-index.result _ index less in
+          let inside : k < tree_count (length c.deref.result.now) = subst (λ (n : ℕ). k < n) (sym size) less in
           subst (λ (n : ℕ). IsIndexed (get_or new (n + k) [])) value
           (subst (λ (b : List ℕ). IsIndexed b) (sym (c.put_free_blocks.ensures.others (c.data_count-data.result + k) low)) (c.in_ok-put_tree.ensures.indexed k inside));
       free_blocks = λ k less.
-          let inside : k < value_blocks (length c.deref-2.result.now) = omega (arith, blocks) in
-          let place : c.data_count-data.result + c.tree_count-index.result + k ≡ data_count es + tree_count (length c.args.entries.now + 2) + k = omega (arith, value, index) in
+          let inside : k < value_blocks (length c.deref-2.result.now) = subst (λ (n : ℕ). k < n) (sym blocks) less in
+          let place : c.data_count-data.result + c.tree_count-index.result + k ≡ data_count es + tree_count (length c.args.entries.now + 2) + k = ap₂ (λ (a b : ℕ). a + b + k) value index in
           free-magic (get_or new (data_count es + tree_count (length c.args.entries.now + 2) + k) [])
           (subst (λ (p : ℕ). IsBuiltFreeBlock (2016 * k) (values_in c.deref-2.result.now k) (get_or new p [])) place (c.put_free_blocks.ensures.blocks k inside)).magic;
     }
@@ -179,7 +182,7 @@ returns-clause-bytes c =
     ranked-is (pairs_from 0 ss) pairs (subst (λ (ps : List Pair). IsPermutation ps pairs) c.in_ok-stated.ensures.pairs c.in_ok-sort_pairs.ensures.moved)
     c.in_ok-sort_pairs.ensures.ranked in
     let deref : c.deref.result.now ≡ index_of ss = c.deref.ensures.value ∙ ranked in
-    let pairs_long : length c.sort_pairs.new.pairs.items ≡ length c.args.entries.now + 2 = omega (arith, c.in_ok-stated.ensures.added, c.in_ok-sort_pairs.ensures.count) in
+    let pairs_long : length c.sort_pairs.new.pairs.items ≡ length c.args.entries.now + 2 = c.in_ok-sort_pairs.ensures.count ∙ c.in_ok-stated.ensures.added in
     let tree_size : c.tree_count-index.result ≡ tree_count (length c.deref.result.now) =
     c.tree_count-index.ensures ∙ ap tree_count (sym (ap length c.deref.ensures.value ∙ pairs_long)) in
     let free_size : c.value_blocks.result ≡ value_blocks (length c.deref-2.result.now) =

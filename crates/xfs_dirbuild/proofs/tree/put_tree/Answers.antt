@@ -13,6 +13,16 @@ use Rattle.std.specs.List.{All}
 use Rattle.xfs_dirindex.specs.declared.pairs.Pair.{Pair}
 use Rattle.xfs_dirbuild.proofs.tree.put_tree.Goals as goal
 
+-- rows that stand behind others
+over-top : (base tops nodes k : ℕ) → base + 0 + tops ≤ base + (tops + nodes) + k
+over-top base tops nodes k = omega arith
+
+over-middle : (base tops nodes k : ℕ) → base + tops + nodes ≤ base + (tops + nodes) + k
+over-middle base tops nodes k = omega arith
+
+over-one : (base tops k : ℕ) → base + 0 + tops ≤ base + tops + k
+over-one base tops k = omega arith
+
 pub returns-then-nodes-eq0-clause-tree : goal.returns-then-nodes-eq0-clause-tree
 returns-then-nodes-eq0-clause-tree c =
     λ ms holds.
@@ -51,7 +61,7 @@ returns-then-tops-eq0-clause-tree c =
     let first : c.nodes_above-tops.result + c.nodes_above-nodes.result ≡ 1 = omega (arith, none, one) in
     let total : tree_count n ≡ 1 + c.leaf_blocks-leaves.result = omega (arith, all, none, one) in
     let lower = holds-part ms row bank base (tops + nodes) leaves 0 (tree_count n) holds (omega arith) (omega (arith, all))
-    (λ k less. c.in_ok-upper.ensures.others (c.args.base + (c.nodes_above-tops.result + c.nodes_above-nodes.result) + k) (inr (omega arith))) in
+    (λ k less. c.in_ok-upper.ensures.others (c.args.base + (c.nodes_above-tops.result + c.nodes_above-nodes.result) + k) (inr (over-middle c.args.base c.nodes_above-tops.result c.nodes_above-nodes.result k))) in
     let upper = holds-part ms bank bank base tops nodes 0 (tree_count n) holds (omega arith) (omega (arith, all)) (λ k less. refl) in
     subst (λ (t : ℕ). IsTreeOf ms t c.args.pairs.now) (sym total)
     (tree-two ms leaves c.args.pairs.now c.in_ok-below.below.items c.in_ok-upper.upper.items (c.in_ok-below.ensures.members ms lower)
@@ -79,9 +89,9 @@ returns-clause-tree c =
     let lower = holds-part ms row bank base (tops + nodes) leaves 0 (tree_count n) holds (omega arith) (omega (arith, all))
     (λ k less.
     let place = c.args.base + (c.nodes_above-tops.result + c.nodes_above-nodes.result) + k in
-    c.in_ok-put_row.ensures.others place (inr (omega arith)) ∙ c.in_ok-upper.ensures.others place (inr (omega arith))) in
+    c.in_ok-put_row.ensures.others place (inr (over-top c.args.base c.nodes_above-tops.result c.nodes_above-nodes.result k)) ∙ c.in_ok-upper.ensures.others place (inr (over-middle c.args.base c.nodes_above-tops.result c.nodes_above-nodes.result k))) in
     let middle = holds-part ms next bank base tops nodes 0 (tree_count n) holds (omega arith) (omega (arith, all))
-    (λ k less. c.in_ok-put_row.ensures.others (c.args.base + c.nodes_above-tops.result + k) (inr (omega arith))) in
+    (λ k less. c.in_ok-put_row.ensures.others (c.args.base + c.nodes_above-tops.result + k) (inr (over-one c.args.base c.nodes_above-tops.result k))) in
     let upper = holds-part ms bank bank base 0 tops 0 (tree_count n) holds (omega arith) (omega (arith, all)) (λ k less. refl) in
     subst (λ (t : ℕ). IsTreeOf ms t c.args.pairs.now) (sym total)
     (tree-three ms nodes leaves c.args.pairs.now c.in_ok-below.below.items c.in_ok-upper.upper.items c.in_ok-put_row.field-0.items
@@ -119,7 +129,7 @@ returns-then-tops-eq0-clause-indexed c =
     (indexed-join bank c.args.base tops nodes (λ k less. absurd (omega (arith, c.if-tops-eq0.true, less))) c.in_ok-upper.ensures.indexed)
     (λ k less.
     subst (λ (b : List ℕ). IsIndexed b)
-    (sym (c.in_ok-upper.ensures.others (c.args.base + (c.nodes_above-tops.result + c.nodes_above-nodes.result) + k) (inr (omega arith))))
+    (sym (c.in_ok-upper.ensures.others (c.args.base + (c.nodes_above-tops.result + c.nodes_above-nodes.result) + k) (inr (over-middle c.args.base c.nodes_above-tops.result c.nodes_above-nodes.result k))))
     (c.in_ok-below.ensures.indexed k less))
 
 pub returns-clause-indexed : goal.returns-clause-indexed
@@ -134,12 +144,12 @@ returns-clause-indexed c =
     (indexed-join bank c.args.base tops nodes
     (λ k less. subst (λ (p : ℕ). IsIndexed (get_or bank p [])) (omega arith) (c.in_ok-put_row.ensures.indexed k less))
     (λ k less.
-    subst (λ (b : List ℕ). IsIndexed b) (sym (c.in_ok-put_row.ensures.others (c.args.base + c.nodes_above-tops.result + k) (inr (omega arith))))
+    subst (λ (b : List ℕ). IsIndexed b) (sym (c.in_ok-put_row.ensures.others (c.args.base + c.nodes_above-tops.result + k) (inr (over-one c.args.base c.nodes_above-tops.result k))))
     (c.in_ok-upper.ensures.indexed k less)))
     (λ k less.
     let place = c.args.base + (c.nodes_above-tops.result + c.nodes_above-nodes.result) + k in
     subst (λ (b : List ℕ). IsIndexed b)
-    (sym (c.in_ok-put_row.ensures.others place (inr (omega arith)) ∙ c.in_ok-upper.ensures.others place (inr (omega arith))))
+    (sym (c.in_ok-put_row.ensures.others place (inr (over-top c.args.base c.nodes_above-tops.result c.nodes_above-nodes.result k)) ∙ c.in_ok-upper.ensures.others place (inr (over-middle c.args.base c.nodes_above-tops.result c.nodes_above-nodes.result k))))
     (c.in_ok-below.ensures.indexed k less))
 
 pub returns-then-nodes-eq0-clause-bytes : goal.returns-then-nodes-eq0-clause-bytes
@@ -175,7 +185,7 @@ returns-then-tops-eq0-clause-bytes c =
     let room : c.args.base + (c.nodes_above-tops.result + c.nodes_above-nodes.result) + c.leaf_blocks-leaves.result ≤ length c.put_row.new.blocks =
     omega (arith, all, c.requires.room, c.in_ok-below.ensures.count) in
     let stays = section-same row bank (base + (tops + nodes)) leaves c.in_ok-upper.ensures.count room
-    (λ k less. c.in_ok-upper.ensures.others (c.args.base + (c.nodes_above-tops.result + c.nodes_above-nodes.result) + k) (inr (omega arith))) in
+    (λ k less. c.in_ok-upper.ensures.others (c.args.base + (c.nodes_above-tops.result + c.nodes_above-nodes.result) + k) (inr (over-middle c.args.base c.nodes_above-tops.result c.nodes_above-nodes.result k))) in
     rows-join bank base tops nodes leaves (tree_count n) pairs below (index_links tops nodes below) all
     (row-none bank (base + 0) 2 0 tops (index_links tops nodes below) c.if-tops-eq0.true)
     (c.in_ok-upper.ensures.bytes ∙ ap (row_blocks 1 tops nodes) c.deref.ensures.value)
@@ -204,9 +214,9 @@ returns-clause-bytes c =
     let low = section-same row bank (base + (tops + nodes)) leaves long room
     (λ k less.
     let place = c.args.base + (c.nodes_above-tops.result + c.nodes_above-nodes.result) + k in
-    c.in_ok-put_row.ensures.others place (inr (omega arith)) ∙ c.in_ok-upper.ensures.others place (inr (omega arith))) in
+    c.in_ok-put_row.ensures.others place (inr (over-top c.args.base c.nodes_above-tops.result c.nodes_above-nodes.result k)) ∙ c.in_ok-upper.ensures.others place (inr (over-middle c.args.base c.nodes_above-tops.result c.nodes_above-nodes.result k))) in
     let middle = section-same next bank (base + tops) nodes c.in_ok-put_row.ensures.count room_next
-    (λ k less. c.in_ok-put_row.ensures.others (c.args.base + c.nodes_above-tops.result + k) (inr (omega arith))) in
+    (λ k less. c.in_ok-put_row.ensures.others (c.args.base + c.nodes_above-tops.result + k) (inr (over-one c.args.base c.nodes_above-tops.result k))) in
     rows-join bank base tops nodes leaves (tree_count n) pairs below upper all
     (c.in_ok-put_row.ensures.bytes ∙ ap (row_blocks 2 0 tops) c.deref-2.ensures.value)
     (middle ∙ (c.in_ok-upper.ensures.bytes ∙ ap (row_blocks 1 tops nodes) c.deref.ensures.value))
