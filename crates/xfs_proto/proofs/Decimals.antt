@@ -1,5 +1,5 @@
 -- A number below a limit that is no larger than the limit of all numbers.
-use Rattle.std.proofs.Common.{◌≡◌, ℕ, ◌^◌, ◌<◌, ◌≤◌, Bool, true, false, List, Option, Some, None, refl, arith, nat_lt, cond, ap, sym}
+use Rattle.std.proofs.Common.{◌≡◌, ℕ, ◌^◌, ◌≤◌, Bool, true, false, List, Option, Some, None, refl, arith, nat_lt, cond, ap, sym}
 use Rattle.std.proofs.lemmas.Bool.Decides.{nat_tests}
 use Rattle.xfs_options.specs.Numbers.{below_limit, bounded_number, decimal_of}
 use Rattle.xfs_proto.specs.Numbers.{limited, number_below}

@@ -1,5 +1,5 @@
 use Rattle.std.proofs.lemmas.Result.{IfOk-from_err}
-use Rattle.std.proofs.Common.{ℕ, ◌+◌, ◌++◌, List, length, sym, ◌∙◌, ap, add-zero}
+use Rattle.std.proofs.Common.{◌+◌, ◌++◌, List, length, sym, ◌∙◌, ap, add-zero}
 use Rattle.std.proofs.lemmas.List.{append-nil}
 use Rattle.xfs_dirdata.specs.declared.records.EntryRec.{EntryRec}
 use Rattle.xfs_dirdata.specs.Written.{data_length, first_entries, offsets}

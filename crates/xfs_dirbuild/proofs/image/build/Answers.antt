@@ -1,5 +1,5 @@
 use Rattle.std.proofs.lemmas.Result.{IfOk-from_err}
-use Rattle.std.proofs.Common.{length, sym, ◌∙◌, ap}
+use Rattle.std.proofs.Common.{sym, ◌∙◌, ap}
 use Rattle.xfs_dirbuild.proofs.Choosing.{short-fits, single-fits, leaf-fits, three-sum, magics-of, built-of}
 use Rattle.xfs_dirbuild.specs.declared.forms.DirectoryForm.{DirectoryForm}
 use Rattle.xfs_dirbuild.specs.Forms.{form_of, data_blocks_of, index_blocks_of, free_blocks_of}
