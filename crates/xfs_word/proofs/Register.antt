@@ -161,6 +161,21 @@ eight n w a b c d e f g h fits ha hb hc hd he hf hg hh =
     let s1 = lowest_last (n + 56) (n + 48) (w / 2 ^ 8) b r2 (omega arith) hb (s2 ∙ ap (after_zeros (n + 48)) (sym w2)) in
     lowest_last (n + 64) (n + 56) w a (bit_xor r2 b) (omega arith) ha s1
 
+-- the same of four bytes
+pub four : (n w a b c d : ℕ) → w < 2 ^ 32
+    → a ≡ after_zeros (n + 32) (w % 256) → b ≡ after_zeros (n + 24) (w / 2 ^ 8 % 256) → c ≡ after_zeros (n + 16) (w / 2 ^ 16 % 256)
+    → d ≡ after_zeros (n + 8) (w / 2 ^ 24 % 256)
+    → bit_xor (bit_xor (bit_xor d c) b) a ≡ after_zeros (n + 32) w
+four n w a b c d fits ha hb hc hd =
+    let top : w / 2 ^ 24 % 256 ≡ w / 2 ^ 24 = omega arith in
+    let w3 : w / 2 ^ 16 / 256 ≡ w / 2 ^ 24 = omega arith in
+    let w2 : w / 2 ^ 8 / 256 ≡ w / 2 ^ 16 = omega arith in
+    let s3 : d ≡ after_zeros (n + 8) (w / 2 ^ 16 / 256) = hd ∙ ap (after_zeros (n + 8)) (top ∙ sym w3) in
+    let s2 = lowest_last (n + 16) (n + 8) (w / 2 ^ 16) c d (omega arith) hc s3 in
+    let r2 = bit_xor d c in
+    let s1 = lowest_last (n + 24) (n + 16) (w / 2 ^ 8) b r2 (omega arith) hb (s2 ∙ ap (after_zeros (n + 16)) (sym w2)) in
+    lowest_last (n + 32) (n + 24) w a (bit_xor r2 b) (omega arith) ha s1
+
 -- an entry of a row behind others, by its place in them
 pub entry_behind : (rows k bits e x : ℕ) → e ≡ after_zeros (8 * (rows + k + 1)) x → 8 * rows + bits ≡ 8 * (rows + k + 1) → e ≡ after_zeros (8 * rows + bits) x
 entry_behind rows k bits e x is same = is ∙ ap (λ (n : ℕ). after_zeros n x) (sym same)
@@ -214,6 +229,10 @@ turn r next at xs part whole taken =
 pub eight_in : (r word : ℕ) (xs : List ℕ) → AreBytes xs → 8 ≤ length xs → word ≡ bit_xor r (little_number 8 xs) → after_zeros 64 word ≡ after_bytes r (take 8 xs)
 eight_in r word xs fit long is = ap (after_zeros 64) is ∙ sym (together 8 r xs fit long)
 
+-- the register after four bytes that are taken in together
+pub four_in : (r word : ℕ) (xs : List ℕ) → AreBytes xs → 4 ≤ length xs → word ≡ bit_xor r (little_number 4 xs) → after_zeros 32 word ≡ after_bytes r (take 4 xs)
+four_in r word xs fit long is = ap (after_zeros 32) is ∙ sym (together 4 r xs fit long)
+
 bytes_behind : (n : ℕ) (xs : List ℕ) → AreBytes xs → AreBytes (drop n xs)
 bytes_behind zero xs fit = fit
 bytes_behind (suc n) [] fit = fit
@@ -236,6 +255,21 @@ sixteen r first last xs fit long is behind =
     ∙ sym (fold-append after_byte r (take 8 xs) (take 8 (drop 8 xs)))
     ∙ ap (after_bytes r) (sym (take-add 8 8 xs))
 
--- the first eight of a few bytes, and the rest
-pub first_few : (r next : ℕ) (xs : List ℕ) → next ≡ after_bytes r (take 8 xs) → after_bytes next (drop 8 xs) ≡ after_bytes r xs
-first_few r next xs is = ap (λ (x : ℕ). after_bytes x (drop 8 xs)) is ∙ sym (fold-append after_byte r (take 8 xs) (drop 8 xs)) ∙ ap (after_bytes r) (take-append-drop 8 xs)
+-- zero bits leave nothing of nothing
+zeros_of_none : (n : ℕ) → after_zeros n 0 ≡ 0
+unfolding after_zeros
+zeros_of_none zero = refl
+zeros_of_none (suc n) = zeros_of_none n
+
+-- sixteen bytes that are zero
+pub sixteen_zeros : (r : ℕ) (xs : List ℕ) → AreBytes xs → 16 ≤ length xs → little_number 8 xs ≡ 0 → little_number 8 (drop 8 xs) ≡ 0
+    → after_zeros 128 r ≡ after_bytes r (take 16 xs)
+sixteen_zeros r xs fit long none none_behind =
+    let first : r ≡ bit_xor r (little_number 8 xs) = sym (ap (bit_xor r) none ∙ xor_zero_r r) in
+    let alone : bit_xor (after_zeros 64 0) (after_zeros 128 r) ≡ after_zeros 128 r =
+    ap (λ (x : ℕ). bit_xor x (after_zeros 128 r)) (zeros_of_none 64) ∙ xor_comm 0 (after_zeros 128 r) ∙ xor_zero_r (after_zeros 128 r) in
+    sym alone ∙ sixteen r r 0 xs fit long first (sym none_behind)
+
+-- the first of a few bytes, and the rest
+pub first_few : (n r next : ℕ) (xs : List ℕ) → next ≡ after_bytes r (take n xs) → after_bytes next (drop n xs) ≡ after_bytes r xs
+first_few n r next xs is = ap (λ (x : ℕ). after_bytes x (drop n xs)) is ∙ sym (fold-append after_byte r (take n xs) (drop n xs)) ∙ ap (after_bytes r) (take-append-drop n xs)

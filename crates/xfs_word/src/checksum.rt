@@ -87,9 +87,19 @@ fn after_few(register: u32, bytes: &[u8]) -> u32
     ensures { result ≡ after_bytes register bytes.now }
 {
     if bytes.len() < 8 {
+        return after_fewer(register, bytes);
+    }
+    after_fewer(after_eight(register, bytes), &bytes[8..])
+}
+
+/// The register after `bytes`, the first four together.
+fn after_fewer(register: u32, bytes: &[u8]) -> u32
+    ensures { result ≡ after_bytes register bytes.now }
+{
+    if bytes.len() < 4 {
         return after_each(register, bytes);
     }
-    after_each(after_eight(register, bytes), &bytes[8..])
+    after_each(after_four(register, bytes), &bytes[4..])
 }
 
 /// The register after `bytes`, one at a time.
@@ -110,14 +120,18 @@ fn after_one(register: u32, byte: u8) -> u32
     entry(0, (register ^ byte as u32) as u64) ^ register >> 8
 }
 
-/// The register after the first sixteen of `bytes`. What the last eight leave does not wait for the register.
+/// The register after the first sixteen of `bytes`. What the last eight leave does not wait for the register. Where all are zero, as most
+/// behind the core of an inode are, the register alone leaves something.
 fn after_sixteen(register: u32, bytes: &[u8]) -> u32
     requires { 16 ≤ length bytes.now }
     ensures { result ≡ after_bytes register (take 16 bytes.now) }
 {
-    let first = LittleEndian::read_u64(bytes) ^ register as u64;
+    let first = LittleEndian::read_u64(bytes);
     let last = LittleEndian::read_u64(&bytes[8..]);
-    entries(0, last) ^ entries(8, first)
+    if first == 0 && last == 0 {
+        return four_entries(12, register);
+    }
+    entries(0, last) ^ entries(8, first ^ register as u64)
 }
 
 /// The register after the first eight of `bytes`.
@@ -126,6 +140,14 @@ fn after_eight(register: u32, bytes: &[u8]) -> u32
     ensures { result ≡ after_bytes register (take 8 bytes.now) }
 {
     entries(0, LittleEndian::read_u64(bytes) ^ register as u64)
+}
+
+/// The register after the first four of `bytes`.
+fn after_four(register: u32, bytes: &[u8]) -> u32
+    requires { 4 ≤ length bytes.now }
+    ensures { result ≡ after_bytes register (take 4 bytes.now) }
+{
+    four_entries(0, LittleEndian::read_u32(bytes) ^ register)
 }
 
 /// What the eight bytes of `word` leave after themselves and `rows` zero bytes behind them. The lowest four come last: they are those that
@@ -142,6 +164,17 @@ fn entries(rows: usize, word: u64) -> u32
         ^ entry(rows + 5, word >> 16)
         ^ entry(rows + 6, word >> 8)
         ^ entry(rows + 7, word)
+}
+
+/// The same of the four bytes of `word`.
+fn four_entries(rows: usize, word: u32) -> u32
+    requires { rows ≤ 12 }
+    ensures { result ≡ after_zeros (8 * rows + 32) word }
+{
+    entry(rows, (word >> 24) as u64)
+        ^ entry(rows + 1, (word >> 16) as u64)
+        ^ entry(rows + 2, (word >> 8) as u64)
+        ^ entry(rows + 3, word as u64)
 }
 
 /// What the lowest byte of `word` leaves after itself and `row` zero bytes behind it.

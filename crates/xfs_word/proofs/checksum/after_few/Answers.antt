@@ -8,4 +8,4 @@ pub returns : goal.returns
 returns c =
     let bytes = c.args.bytes.now in
     let next = c.after_eight.result in
-    c.after_each-2.ensures ∙ ap (after_bytes next) (take_rest bytes 8) ∙ first_few c.args.register next bytes c.after_eight.ensures
+    c.after_fewer-2.ensures ∙ ap (after_bytes next) (take_rest bytes 8) ∙ first_few 8 c.args.register next bytes c.after_eight.ensures
