@@ -5,6 +5,7 @@ ghost use Rattle.std.specs.Prelude.{◌≡◌, ℕ, ◌+◌, ◌*◌, ◌^◌, �
 use crate::geometry::Geometry;
 
 impl Geometry {
+    ghost use Rattle.xfs_geom.specs.Groups.{block_of_address};
     ghost use Rattle.xfs_geom.specs.Conversions.{group_length, is_fixed, address_of, block_at, inode_of, slot_at};
     ghost use Rattle.xfs_geom.specs.Volumes.{volume_of};
 
@@ -50,6 +51,14 @@ impl Geometry {
             return None;
         }
         Some(self.start_of_group(ag) + ag_block)
+    }
+
+    /// The number that an address gives a block, whether or not the volume has that block.
+    pub fn number_of_address(&self, address: u64) -> u64
+        ensures { result ≡ block_of_address self.now.agblocks self.now.agblklog address }
+    {
+        let size = self.size_of_addresses();
+        address / size * self.agblocks as u64 + address % size
     }
 
     /// The address of a block.

@@ -1,6 +1,6 @@
 //! The clusters of a group that says in full where its clusters are.
 
-ghost use Rattle.std.specs.Prelude.{◌≡◌, ◌+◌, ◌/◌, ◌^◌, ◌<◌, ◌≤◌, ◌++◌, ◌∷◌, [], if◌then◌else◌, true, IfOk, OnOk};
+ghost use Rattle.std.specs.Prelude.{◌≡◌, ◌+◌, ◌/◌, ◌<◌, ◌≤◌, ◌++◌, ◌∷◌, [], if◌then◌else◌, true, IfOk, OnOk};
 ghost use Rattle.std.specs.Option.{ForSome};
 ghost use Rattle.xfs_disk.specs.Faults.{HasCause};
 ghost use Rattle.xfs_geom.specs.Conversions.{group_length};
@@ -165,15 +165,5 @@ pub(crate) fn lies_in_chunk(g: &Geometry, cluster: u64) -> bool
 pub(crate) fn root_cluster(g: &Geometry) -> u64
     ensures { result ≡ root_cluster (volume_of g.now) }
 {
-    let address = g.rootino / 32 * 4;
-    let size = size_of_addresses(g);
-    address / size * g.agblocks as u64 + address % size
-}
-
-/// The number of AG blocks that an address can tell apart.
-fn size_of_addresses(g: &Geometry) -> u64
-    ensures value { result ≡ 2 ^ g.now.agblklog }
-    ensures some { 1 ≤ result }
-{
-    1 << g.agblklog
+    g.number_of_address(g.rootino / 32 * 4)
 }

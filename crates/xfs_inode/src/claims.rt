@@ -1,6 +1,6 @@
 //! Runs of blocks that a file claims.
 
-ghost use Rattle.std.specs.Prelude.{None, ◌≡◌, ℕ, ◌+◌, ◌^◌, ◌<◌, ◌≤◌, ◌++◌, nat_lt, map, true, IsTrue, IfOk, OnOk, IsPermutation};
+ghost use Rattle.std.specs.Prelude.{None, ◌≡◌, ℕ, ◌+◌, ◌<◌, ◌≤◌, ◌++◌, nat_lt, map, true, IsTrue, IfOk, OnOk, IsPermutation};
 ghost use Rattle.std.specs.List.{All, list_all};
 ghost use Rattle.xfs_word.specs.declared.extents.Extent.{Extent};
 ghost use Rattle.xfs_geom.specs.Volumes.{Volume, volume_of};
@@ -132,20 +132,11 @@ pub fn range_of(g: &Geometry, extent: &Extent) -> BlockRange
     requires { IsTrue (is_extent (volume_of g.now) extent.now) }
     ensures { result ≡ range_of (volume_of g.now) extent.now }
 {
-    let size = size_of_addresses(g);
-    let group = (extent.start / size) as u32;
-    let start = g.start_of_group(group) + extent.start % size;
+    let start = g.number_of_address(extent.start);
     BlockRange {
         start,
         end: start + extent.count,
     }
-}
-
-/// The number of AG blocks that an address can tell apart.
-fn size_of_addresses(g: &Geometry) -> u64
-    ensures { result ≡ 2 ^ g.now.agblklog }
-{
-    1 << g.agblklog
 }
 
 /// One block.

@@ -2,7 +2,6 @@
 
 ghost use Rattle.std.specs.Prelude.{◌≡◌, ◌++◌, ◌<◌, ◌↔◌, ◌^◌, ◌≤◌, IsTrue, map, IfOk, OnOk};
 ghost use Rattle.std.specs.List.{All};
-ghost use Rattle.xfs_geom.specs.Groups.{block_of_address};
 ghost use Rattle.xfs_geom.specs.Volumes.{volume_of};
 ghost use Rattle.xfs_image.specs.Clusters.{cluster_of, root_cluster};
 ghost use Rattle.xfs_claims.specs.Spans.{SpansApart, IsRun, spans_of};
@@ -61,7 +60,7 @@ fn push_extents(
 {
     for extent in extents {
         runs.push(Run {
-            start: block_of(g, extent.start),
+            start: g.number_of_address(extent.start),
             count: extent.count,
             owner: ino,
             offset_word: word_of(flag, extent),
@@ -98,19 +97,11 @@ fn word_of(flag: u64, extent: &Extent) -> u64
     }
 }
 
-/// The number of the block at an address.
-fn block_of(g: &Geometry, address: u64) -> u64
-    ensures { result ≡ block_of_address g.now.agblocks g.now.agblklog address }
-{
-    let size = 1u64 << g.agblklog;
-    address / size * g.agblocks as u64 + address % size
-}
-
 /// The first block of the cluster of an inode.
 pub fn cluster_of(g: &Geometry, ino: u64) -> u64
     ensures { result ≡ cluster_of (volume_of g.now) ino }
 {
-    block_of(g, ino / 32 * 4)
+    g.number_of_address(ino / 32 * 4)
 }
 
 /// The first block of the cluster of the root.

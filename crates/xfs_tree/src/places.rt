@@ -1,6 +1,6 @@
 //! Which blocks can be of a tree, and how they are sealed and linked.
 
-ghost use Rattle.std.specs.Prelude.{◌≡◌, ℕ, ◌*◌, ◌/◌, ◌<◌, ◌≤◌, ◌^◌, false, IsTrue};
+ghost use Rattle.std.specs.Prelude.{◌≡◌, ℕ, ◌*◌, ◌/◌, ◌<◌, ◌^◌, false, IsTrue};
 ghost use Rattle.xfs_geom.specs.Volumes.{volume_of};
 ghost use Rattle.xfs_geom.specs.Groups.{block_of_address};
 ghost use Rattle.xfs_tree.specs.Blocks.{block_of_pointer};
@@ -37,17 +37,7 @@ fn is_of_root_cluster(g: &Geometry, block: u64) -> bool
 fn root_cluster(g: &Geometry) -> u64
     ensures { result ≡ block_of_address g.now.agblocks g.now.agblklog (g.now.rootino / 32 * 4) }
 {
-    let address = g.rootino / 32 * 4;
-    let size = size_of_addresses(g);
-    address / size * g.agblocks as u64 + address % size
-}
-
-/// The number of AG blocks that an address can tell apart.
-fn size_of_addresses(g: &Geometry) -> u64
-    ensures value { result ≡ 2 ^ g.now.agblklog }
-    ensures some { 1 ≤ result }
-{
-    1 << g.agblklog
+    g.number_of_address(g.rootino / 32 * 4)
 }
 
 /// How a block of the owner's tree is sealed.

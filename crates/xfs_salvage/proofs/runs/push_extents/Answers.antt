@@ -25,8 +25,8 @@ loop-extent-preserved c =
     let none : Extent = record { offset = 0; start = 0; count = 0; unwritten = false } in
     let extent : Extent = get_or c.args.extents.now c.loop-extent.extent-index none in
     run_next (extent_run (volume_of c.args.g.now) c.args.ino c.args.flag) c.args.extents.now c.loop-extent.extent-index none
-    (new_run c.block_of.result extent.count c.args.ino c.word_of.result) c.loop-extent.runs.items c.push.new.self.items _ c.loop-extent-test.true
-    (ap₂ (λ (block word : ℕ). new_run block extent.count c.args.ino word) c.block_of.ensures c.word_of.ensures) c.in_ok-push.ensures.items c.loop-extent.invariant
+    (new_run c.number_of_address.result extent.count c.args.ino c.word_of.result) c.loop-extent.runs.items c.push.new.self.items _ c.loop-extent-test.true
+    (ap₂ (λ (block word : ℕ). new_run block extent.count c.args.ino word) c.number_of_address.ensures c.word_of.ensures) c.in_ok-push.ensures.items c.loop-extent.invariant
 
 pub returns-in_err-push : goal.returns-in_err-push
 returns-in_err-push c = IfOk-from_err c.from_residual.result _ c.from_residual.ensures.0
