@@ -10,7 +10,7 @@ ghost use Rattle.xfs_inode.specs.declared.files.FileRead.TheVariants as Reads;
 
 use crate::attributes::AttrHeld;
 use crate::counts::{is_counted, is_off_attributes};
-use crate::files::{BoxedFile, FileRead};
+use crate::files::FileRead;
 use crate::held::DataHeld;
 use crate::records::file_record;
 use std::alloc::{AllocError, Global};
@@ -58,7 +58,7 @@ fn without_attrs(
     ensures { IfOk result (λ read. read ≡ Reads.FileWithoutAttrs (file_record ino core.now slot.now (option_copied link.entry) held no_attrs)) }
 {
     let file = file_record(alloc, ino, core, slot, link, held, AttrHeld::none(alloc))?;
-    Ok(FileRead::FileWithoutAttrs(BoxedFile::new(alloc, file)?))
+    Ok(FileRead::FileWithoutAttrs(file))
 }
 
 /// What a slot reads as whose attribute fork reads.
@@ -131,7 +131,7 @@ fn whole_file(
     ensures { IfOk result (λ read. read ≡ Reads.File (file_record ino core.now slot.now (option_copied link.entry) held fork)) }
 {
     let file = file_record(alloc, ino, core, slot, link, held, fork)?;
-    Ok(FileRead::File(BoxedFile::new(alloc, file)?))
+    Ok(FileRead::File(file))
 }
 
 /// What a slot reads as whose attribute fork is at odds with its other blocks.

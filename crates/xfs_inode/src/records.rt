@@ -8,6 +8,7 @@ ghost use Rattle.xfs_inode.specs.Private.Records.{record_of};
 
 use crate::attributes::AttrHeld;
 use crate::extents::core_type;
+use crate::files::BoxedFile;
 use crate::held::DataHeld;
 use crate::layouts::inode::{DATA_FORK, DEVICE};
 use crate::layouts::link::TARGET;
@@ -16,7 +17,7 @@ use xfs_attr::Attr;
 use xfs_volume::{Core, Extents, Few, FileRec};
 use xfs_word::{Extent, get32, part};
 
-/// The record of a file whose data fork and attribute fork hold this.
+/// The record of a file whose data fork and attribute fork hold this. It is set apart where it is made, so that it need not move.
 pub fn file_record(
     alloc: Global,
     ino: u64,
@@ -25,7 +26,7 @@ pub fn file_record(
     link: Option<&[u8]>,
     held: DataHeld,
     fork: AttrHeld,
-) -> Result<FileRec, AllocError>
+) -> Result<BoxedFile, AllocError>
     requires slot { length slot.now ≡ 512 }
     requires link { IfSome (option_copied link) (λ block. length block ≡ 4096) }
     requires fits { core.now.format ≡ 1 → core.now.size ≤ 336 }
@@ -50,7 +51,7 @@ fn with_fork(
     link: Option<&[u8]>,
     held: DataHeld,
     fork: AttrLists,
-) -> Result<FileRec, AllocError>
+) -> Result<BoxedFile, AllocError>
     requires slot { length slot.now ≡ 512 }
     requires link { IfSome (option_copied link) (λ block. length block ≡ 4096) }
     requires fits { core.now.format ≡ 1 → core.now.size ≤ 336 }
@@ -75,7 +76,7 @@ fn with_data(
     link: Option<&[u8]>,
     held: DataLists,
     fork: AttrLists,
-) -> Result<FileRec, AllocError>
+) -> Result<BoxedFile, AllocError>
     requires slot { length slot.now ≡ 512 }
     requires link { IfSome (option_copied link) (λ block. length block ≡ 4096) }
     requires fits { core.now.format ≡ 1 → core.now.size ≤ 336 }
@@ -83,7 +84,7 @@ fn with_data(
     ensures { IfOk result (λ file. file ≡ record_of ino core.now held.extents held.tree fork.attrs fork.attr_extents (link_target core.now slot.now (option_copied link.entry)) (device_of core.now slot.now)) }
 {
     match link_target(alloc, core, slot, link) {
-        Ok(target) => Ok(record_of(ino, core, slot, held, fork, target)),
+        Ok(target) => BoxedFile::new(alloc, record_of(ino, core, slot, held, fork, target)),
         Err(error) => {
             drop(held);
             drop(fork);

@@ -1,4 +1,4 @@
-use Rattle.std.proofs.Common.{ap, ◌∙◌}
+use Rattle.std.proofs.Common.{ap}
 use Rattle.std.proofs.lemmas.Result.{IfOk-from_err}
 use Rattle.xfs_volume.specs.declared.files.FileRec.{FileRec}
 use Rattle.xfs_inode.specs.declared.files.FileRead.TheVariants as Reads
@@ -10,8 +10,5 @@ file_record-requires c = record { slot = c.requires.slot; link = c.requires.link
 pub returns-in_err-file : goal.returns-in_err-file
 returns-in_err-file c = IfOk-from_err c.from_residual.result _ c.from_residual.ensures.0
 
-pub returns-in_err-new : goal.returns-in_err-new
-returns-in_err-new c = IfOk-from_err c.from_residual-in_err-new.result _ c.from_residual-in_err-new.ensures.0
-
 pub returns : goal.returns
-returns c = ap (λ (f : FileRec). Reads.File f) (c.in_ok-new.ensures ∙ c.in_ok-file.ensures)
+returns c = ap (λ (f : FileRec). Reads.File f) c.in_ok-file.ensures

@@ -12,9 +12,6 @@ file_record-requires c = record { slot = c.requires.slot; link = c.requires.link
 pub returns-in_err-file : goal.returns-in_err-file
 returns-in_err-file c = IfOk-from_err c.from_residual.result _ c.from_residual.ensures.0
 
-pub returns-in_err-new : goal.returns-in_err-new
-returns-in_err-new c = IfOk-from_err c.from_residual-in_err-new.result _ c.from_residual-in_err-new.ensures.0
-
 pub returns : goal.returns
-returns c = ap (λ (f : FileRec). Reads.FileWithoutAttrs f) (c.in_ok-new.ensures ∙ c.in_ok-file.ensures
+returns c = ap (λ (f : FileRec). Reads.FileWithoutAttrs f) (c.in_ok-file.ensures
     ∙ ap (λ (f : AttrFork). file_record c.args.ino c.args.core.now c.args.slot.now (option_copied c.args.link) c.args.held f) c.none.ensures)
