@@ -6,7 +6,8 @@ ghost use Rattle.xfs_inode.specs.Slots.{slot_read};
 ghost use Rattle.xfs_rounds.specs.Judged.{ArePartsBelow, ArePartsOf, IsFileOf, IsPartOf};
 
 use crate::facts::{SlotFact, fact_of};
-use std::alloc::Global;
+use std::alloc::{AllocError, Global};
+use std::marker::Model;
 use xfs_disk::NoMemory;
 use xfs_geom::Geometry;
 use xfs_inode::{FileRead, SlotRead, decide_alone, read_slot};
@@ -23,9 +24,42 @@ pub enum SlotFile {
     /// It names no other block, and reads so.
     Decided(FileRead),
     /// It names other blocks. By itself it reads so.
-    Naming(SlotRead),
+    Naming(BoxedRead),
     /// It names other blocks, and has this number among the slots of its round that do.
     Named(usize),
+}
+
+/// What a slot reads as by itself, set apart: few slots name other blocks, and what is kept of each slot is small so. Contracts see what it
+/// reads as.
+#[derive(Drop)]
+pub struct BoxedRead {
+    read: Box<SlotRead>,
+}
+
+impl Model for BoxedRead {
+    ghost use Rattle.xfs_inode.specs.declared.reading.SlotRead.{SlotRead};
+
+    ghost Value = { SlotRead };
+
+    ghost view = { λ boxed. boxed.read.value };
+}
+
+impl BoxedRead {
+    /// What a slot reads as, set apart.
+    pub(crate) fn new(alloc: Global, read: SlotRead) -> Result<BoxedRead, AllocError>
+        ensures { IfOk result (λ boxed. boxed ≡ read) }
+    {
+        Ok(BoxedRead {
+            read: Box::new(alloc, read)?,
+        })
+    }
+
+    /// What the slot reads as.
+    pub(crate) fn as_read(&self) -> &SlotRead
+        ensures { result.now ≡ self.now }
+    {
+        &self.read
+    }
 }
 
 /// What is known of a slot from its bytes alone.
@@ -95,7 +129,7 @@ fn judge_slot(
     let held = part(bytes, SLOT_SIZE * slot as usize, SLOT_SIZE);
     let read = read_slot(g, ino, held);
     let fact = fact_of(held, &read);
-    let file = judge_file(alloc, g, ino, held, read)?;
+    let file = judge_file(alloc, g, ino, held, &read)?;
     Ok(SlotPart { slot, fact, file })
 }
 
@@ -105,14 +139,14 @@ fn judge_file(
     g: &Geometry,
     ino: u64,
     slot: &[u8],
-    read: SlotRead,
+    read: &SlotRead,
 ) -> Result<SlotFile, NoMemory>
     requires slot { length slot.now ≡ 512 }
-    requires itself { read ≡ slot_read (volume_of g.now) ino slot.now }
+    requires itself { read.now ≡ slot_read (volume_of g.now) ino slot.now }
     ensures { IfOk result (IsFileOf (volume_of g.now) ino slot.now) }
 {
-    match decide_alone(alloc, g, ino, slot, &read)? {
+    match decide_alone(alloc, g, ino, slot, read)? {
         Some(file) => Ok(SlotFile::Decided(file)),
-        None => Ok(SlotFile::Naming(read)),
+        None => Ok(SlotFile::Naming(BoxedRead::new(alloc, *read)?)),
     }
 }

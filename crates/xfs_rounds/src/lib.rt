@@ -31,7 +31,7 @@ mod trees;
 
 pub use facts::{SlotFact, SlotReading};
 pub use faults::RoundFault;
-pub use judging::{SlotFile, SlotPart};
+pub use judging::{BoxedRead, SlotFile, SlotPart};
 pub use loading::load_round;
 pub use pieces::{BlockParts, judge_round, piece_size};
 pub use reading::settle_round;

@@ -103,9 +103,10 @@ fn name_part(
     ensures more { OnOk result (IsMore named.old named.new) }
     ensures within { OnOk result (AreWithin g.now.dblocks named.new) }
 {
-    let SlotFile::Naming(read) = known.file else {
+    let SlotFile::Naming(read) = &known.file else {
         return Ok(());
     };
+    let read = *read.as_read();
     let number = named.slots.len();
     let ino = g.inode_of_slot(place, known.slot);
     let slot = part(bytes, SLOT_SIZE * known.slot as usize, SLOT_SIZE);
