@@ -20,7 +20,7 @@ use xfs_collections::Steps;
 use xfs_dirs::{DirFound, DirectoryFault, read_directory};
 use xfs_disk::{Disk, NoMemory};
 use xfs_geom::Geometry;
-use xfs_inode::{FileRead, InodeFault, SlotRead, read_file_of};
+use xfs_inode::{BoxedFile, FileRead, InodeFault, SlotRead, read_file_of};
 use xfs_volume::{DirRec, FileRec};
 
 /// The type of a directory, in the upper four bits of a mode.
@@ -76,10 +76,8 @@ pub fn take_read<D: Disk, L: Ledger>(
 {
     match read {
         FileRead::Free => Ok(()),
-        FileRead::File(file) => { take_file(alloc, g, disk, slot, file.into_file(), inodes, steps) }
-        FileRead::FileWithoutAttrs(file) => {
-            take_bare(alloc, g, disk, slot, file.into_file(), inodes, steps)
-        }
+        FileRead::File(file) => take_file(alloc, g, disk, slot, file, inodes, steps),
+        FileRead::FileWithoutAttrs(file) => take_bare(alloc, g, disk, slot, file, inodes, steps),
         FileRead::Unsupported { what } => {
             inodes.pass(ino, Some(InodeFeature { ino, what }));
             Ok(())
@@ -97,7 +95,7 @@ fn take_bare<D: Disk, L: Ledger>(
     g: &Geometry,
     disk: &mut D,
     slot: &[u8],
-    file: FileRec,
+    file: BoxedFile,
     inodes: &mut Inodes,
     steps: &mut Steps<L>,
 ) -> Result<(), PartFault>
@@ -110,7 +108,7 @@ fn take_bare<D: Disk, L: Ledger>(
     ensures disk { OnlyReads D.size D.holds D.write_faults D.writes D.tells_stops D.moment D.may_leave D.left_since disk.old disk.new }
     ensures reads { D.reads disk.new + steps.old ≤ D.reads disk.old + steps.new }
 {
-    match note_bare(file.ino, inodes) {
+    match note_bare(file.as_file().ino, inodes) {
         Ok(()) => take_file(alloc, g, disk, slot, file, inodes, steps),
         Err(NoMemory) => {
             drop(file);
@@ -134,7 +132,7 @@ fn take_file<D: Disk, L: Ledger>(
     g: &Geometry,
     disk: &mut D,
     slot: &[u8],
-    file: FileRec,
+    file: BoxedFile,
     inodes: &mut Inodes,
     steps: &mut Steps<L>,
 ) -> Result<(), PartFault>
@@ -147,7 +145,7 @@ fn take_file<D: Disk, L: Ledger>(
     ensures disk { OnlyReads D.size D.holds D.write_faults D.writes D.tells_stops D.moment D.may_leave D.left_since disk.old disk.new }
     ensures reads { D.reads disk.new + steps.old ≤ D.reads disk.old + steps.new }
 {
-    match take_directory(alloc, g, disk, slot, &file, inodes, steps) {
+    match take_directory(alloc, g, disk, slot, file.as_file(), inodes, steps) {
         Ok(()) => {}
         Err(fault) => {
             drop(file);
@@ -160,11 +158,11 @@ fn take_file<D: Disk, L: Ledger>(
     }
 }
 
-/// Adds a file.
-fn push_file(file: FileRec, inodes: &mut Inodes) -> Result<(), NoMemory>
+/// Adds a file, which is moved here alone: from where it stands apart into the list.
+fn push_file(file: BoxedFile, inodes: &mut Inodes) -> Result<(), NoMemory>
     ensures { OnOk result (held_in inodes.new ≡ gathered_both (held_in inodes.old) (record { files = file ∷ []; bare = []; entries = []; dirs = []; unread = None; feature = None })) }
 {
-    inodes.files.push(file)?;
+    inodes.files.push(file.into_file())?;
     Ok(())
 }
 

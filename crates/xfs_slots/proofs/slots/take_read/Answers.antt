@@ -1,11 +1,9 @@
-use Rattle.std.proofs.Common.{◌≡◌, ℕ, [], ◌∷◌, Some, None, true, OnOk, ap, sym, subst, ◌∙◌, arith}
+use Rattle.std.proofs.Common.{◌≡◌, ℕ, [], ◌∷◌, Some, OnOk, ap, sym, subst, ◌∙◌, arith}
 use Rattle.std.specs.Option.{ForSome}
 use Rattle.xfs_geom.specs.Volumes.{volume_of}
 use Rattle.xfs_disk.proofs.Reading.{reads_none}
 use Rattle.xfs_inode.specs.declared.files.FileRead.{FileRead}
-use Rattle.xfs_inode.specs.Files.{are_extents}
 use Rattle.xfs_inode.specs.Sound.{IsSound}
-use Rattle.xfs_volume.specs.declared.files.FileRec.{FileRec}
 use Rattle.xfs_image.specs.Slots.{slot_bytes}
 use Rattle.xfs_slots.specs.Gathered.{held_in, gathered_both, of_file, of_read}
 use Rattle.xfs_slots.proofs.Gathering.{joined_nothing}
@@ -15,26 +13,19 @@ pub take_file-requires-clause-held : goal.take_file-requires-clause-held
 take_file-requires-clause-held g c = λ image told.
     let v = volume_of c.args.g.now in
     let sound = subst (IsSound v c.args.ino) c.in-File.is c.requires.sound in
-    subst (λ (f : FileRec). slot_bytes v image f.ino ≡ c.args.slot.now) (sym c.into_file.ensures)
-    (subst (λ (n : ℕ). slot_bytes v image n ≡ c.args.slot.now) (sym sound.keeps.number) (c.requires.held image told))
+    subst (λ (n : ℕ). slot_bytes v image n ≡ c.args.slot.now) (sym sound.keeps.number) (c.requires.held image told)
 
 pub take_file-requires-clause-extents : goal.take_file-requires-clause-extents
-take_file-requires-clause-extents g c =
-    let v = volume_of c.args.g.now in
-    subst (λ (f : FileRec). are_extents v None f.extents ≡ true) (sym c.into_file.ensures) (subst (IsSound v c.args.ino) c.in-File.is c.requires.sound).keeps.extents
+take_file-requires-clause-extents g c = (subst (IsSound (volume_of c.args.g.now) c.args.ino) c.in-File.is c.requires.sound).keeps.extents
 
 pub take_bare-requires-clause-held : goal.take_bare-requires-clause-held
 take_bare-requires-clause-held g c = λ image told.
     let v = volume_of c.args.g.now in
     let sound = subst (IsSound v c.args.ino) c.in-FileWithoutAttrs.is c.requires.sound in
-    subst (λ (f : FileRec). slot_bytes v image f.ino ≡ c.args.slot.now) (sym c.into_file-in-FileWithoutAttrs.ensures)
-    (subst (λ (n : ℕ). slot_bytes v image n ≡ c.args.slot.now) (sym sound.keeps.number) (c.requires.held image told))
+    subst (λ (n : ℕ). slot_bytes v image n ≡ c.args.slot.now) (sym sound.keeps.number) (c.requires.held image told)
 
 pub take_bare-requires-clause-extents : goal.take_bare-requires-clause-extents
-take_bare-requires-clause-extents g c =
-    let v = volume_of c.args.g.now in
-    subst (λ (f : FileRec). are_extents v None f.extents ≡ true) (sym c.into_file-in-FileWithoutAttrs.ensures)
-    (subst (IsSound v c.args.ino) c.in-FileWithoutAttrs.is c.requires.sound).keeps.extents
+take_bare-requires-clause-extents g c = (subst (IsSound (volume_of c.args.g.now) c.args.ino) c.in-FileWithoutAttrs.is c.requires.sound).keeps.extents
 
 pub returns-in-Free : goal.returns-in-Free
 returns-in-Free g c =
@@ -51,11 +42,9 @@ pub returns-in-File : goal.returns-in-File
 returns-in-File g c =
     let v = volume_of c.args.g.now in
     let old = held_in c.args.inodes.now in
-    let held = subst (λ (f : FileRec). OnOk c.take_file.result (ForSome (g.D.Disk.holds c.args.disk.now) (λ image.
-    held_in c.take_file.new.inodes ≡ gathered_both old (of_file v image f [] None)))) c.into_file.ensures c.take_file.ensures.held in
     record {
       held = subst (λ (r : FileRead). OnOk c.take_file.result (ForSome (g.D.Disk.holds c.args.disk.now) (λ image.
-          held_in c.take_file.new.inodes ≡ gathered_both old (of_read v image c.args.ino r)))) (sym c.in-File.is) held;
+          held_in c.take_file.new.inodes ≡ gathered_both old (of_read v image c.args.ino r)))) (sym c.in-File.is) c.take_file.ensures.held;
       cause = c.take_file.ensures.cause;
       disk = c.take_file.ensures.disk;
       reads = c.take_file.ensures.reads;
@@ -67,10 +56,8 @@ returns-in-FileWithoutAttrs g c =
     let old = held_in c.args.inodes.now in
     let file = c.in-FileWithoutAttrs.file in
     let sound = subst (IsSound v c.args.ino) c.in-FileWithoutAttrs.is c.requires.sound in
-    let taken = subst (λ (f : FileRec). OnOk c.take_bare.result (ForSome (g.D.Disk.holds c.args.disk.now) (λ image.
-    held_in c.take_bare.new.inodes ≡ gathered_both old (of_file v image f (f.ino ∷ []) (Some f.ino))))) c.into_file-in-FileWithoutAttrs.ensures c.take_bare.ensures.held in
     let held = subst (λ (n : ℕ). OnOk c.take_bare.result (ForSome (g.D.Disk.holds c.args.disk.now) (λ image.
-    held_in c.take_bare.new.inodes ≡ gathered_both old (of_file v image file (n ∷ []) (Some n))))) sound.keeps.number taken in
+    held_in c.take_bare.new.inodes ≡ gathered_both old (of_file v image file (n ∷ []) (Some n))))) sound.keeps.number c.take_bare.ensures.held in
     record {
       held = subst (λ (r : FileRead). OnOk c.take_bare.result (ForSome (g.D.Disk.holds c.args.disk.now) (λ image.
           held_in c.take_bare.new.inodes ≡ gathered_both old (of_read v image c.args.ino r)))) (sym c.in-FileWithoutAttrs.is) held;
