@@ -20,9 +20,9 @@ const BLOCK_BYTES: u64 = BLOCK_SIZE as u64;
 
 /// Blocks of a file that follow one another.
 ///
-/// Blocks are read ahead only where the one behind the last is asked for, so that a block that stands alone costs what it did: first
+/// Blocks are read ahead only where the one behind the last is read whole, so that a block that stands alone costs what it did: first
 /// those up to the next multiple of eight, since chunks of inodes begin and end there, then eight, and then twice as many each time up to
-/// sixty-four.
+/// sixty-four. The first bytes of a block are given where it is held, and change nothing here.
 #[derive(Drop)]
 pub(crate) struct Ahead {
     bytes: Vec<u8>,

@@ -83,28 +83,6 @@ impl<F: ByteFile + Drop> FileDisk<F> {
             ahead: Ahead::none(alloc),
         }
     }
-
-    /// Fills the slice with the first bytes of a block.
-    fn read_part(&mut self, at: u64, into: &mut [u8]) -> Result<(), Failed>
-        requires inside { at < size_of self.old }
-        requires part { length into.old ≤ 4096 }
-        ensures opened { OnOk result (IsSome (file_of self.old)) }
-        ensures read { OnOk result (ForSome (bytes_of F.bytes self.old) (λ all. into.new ≡ take (length into.old) (drop (at * 4096) all))) }
-        ensures bytes { bytes_of F.bytes self.new ≡ bytes_of F.bytes self.old }
-        ensures size { size_of self.new ≡ size_of self.old }
-        ensures faults { CountsFailure (faults_of self.old) (faults_of self.new) result }
-        ensures write_faults { write_faults_of self.new ≡ write_faults_of self.old }
-        ensures reads { CountsDone (reads_of self.old) (reads_of self.new) result }
-        ensures writes { writes_of self.new ≡ writes_of self.old }
-    {
-        let outcome = match &mut self.file {
-            Some(file) => read_block(file, &mut self.ahead, at, into),
-            None => Err(no_file()),
-        };
-        let outcome = counted(outcome, &mut self.faults);
-        count_done(&outcome, &mut self.reads);
-        outcome
-    }
 }
 
 impl<F: ByteFile + Drop> Disk for FileDisk<F> {
@@ -155,7 +133,13 @@ impl<F: ByteFile + Drop> Disk for FileDisk<F> {
         ensures reads { CountsDone (reads_of self.old) (reads_of self.new) result }
         ensures writes { writes_of self.new ≡ writes_of self.old }
     {
-        self.read_part(at, into)
+        let outcome = match &mut self.file {
+            Some(file) => read_block(file, &mut self.ahead, at, into),
+            None => Err(no_file()),
+        };
+        let outcome = counted(outcome, &mut self.faults);
+        count_done(&outcome, &mut self.reads);
+        outcome
     }
 
     fn read_front(&mut self, at: u64, into: &mut [u8]) -> Result<(), Failed>
@@ -170,7 +154,13 @@ impl<F: ByteFile + Drop> Disk for FileDisk<F> {
         ensures reads { CountsDone (reads_of self.old) (reads_of self.new) result }
         ensures writes { writes_of self.new ≡ writes_of self.old }
     {
-        self.read_part(at, into)
+        let outcome = match &mut self.file {
+            Some(file) => read_front_only(file, &self.ahead, at, into),
+            None => Err(no_file()),
+        };
+        let outcome = counted(outcome, &mut self.faults);
+        count_done(&outcome, &mut self.reads);
+        outcome
     }
 
     fn write(&mut self, at: u64, from: &[u8]) -> Result<(), Failed>
@@ -221,7 +211,7 @@ impl<F: ByteFile + Drop> Disk for FileDisk<F> {
     ghost only_now = { λ disk image tells. absurd tells };
 }
 
-/// Fills the slice with the first bytes of a block of the file, which may have been read ahead.
+/// Fills the slice with a block of the file, which may have been read ahead, and reads ahead where blocks are asked for in a row.
 fn read_block<F: ByteFile>(
     file: &mut F,
     ahead: &mut Ahead,
@@ -229,9 +219,9 @@ fn read_block<F: ByteFile>(
     into: &mut [u8],
 ) -> io::Result<()>
     requires range { at * 4096 < 2 ^ 64 }
-    requires part { length into.old ≤ 4096 }
+    requires whole { length into.old ≡ 4096 }
     requires held { HoldsPart (F.bytes file.old) ahead.old }
-    ensures read { OnOk result (ForSome (F.bytes file.old) (λ all. into.new ≡ take (length into.old) (drop (at * 4096) all))) }
+    ensures read { OnOk result (ForSome (F.bytes file.old) (λ all. into.new ≡ take 4096 (drop (at * 4096) all))) }
     ensures bytes { F.bytes file.new ≡ F.bytes file.old }
     ensures held { HoldsPart (F.bytes file.new) ahead.new }
 {
@@ -240,6 +230,27 @@ fn read_block<F: ByteFile>(
         return Ok(());
     }
     ahead.expect_behind(at);
+    read_at(file, at * BLOCK_BYTES, into)
+}
+
+/// Fills the slice with the first bytes of a block of the file, which may have been read ahead. Nothing is read ahead for them: where a few
+/// bytes of each block are asked for, whole blocks would be read for nothing. What is held ahead stays as it is.
+fn read_front_only<F: ByteFile>(
+    file: &mut F,
+    ahead: &Ahead,
+    at: u64,
+    into: &mut [u8],
+) -> io::Result<()>
+    requires range { at * 4096 < 2 ^ 64 }
+    requires part { length into.old ≤ 4096 }
+    requires held { HoldsPart (F.bytes file.old) ahead.now }
+    ensures read { OnOk result (ForSome (F.bytes file.old) (λ all. into.new ≡ take (length into.old) (drop (at * 4096) all))) }
+    ensures bytes { F.bytes file.new ≡ F.bytes file.old }
+    ensures held { HoldsPart (F.bytes file.new) ahead.now }
+{
+    if ahead.give(at, into) {
+        return Ok(());
+    }
     read_at(file, at * BLOCK_BYTES, into)
 }
 

@@ -1,5 +1,5 @@
 -- Each turn reads the next bytes, or none where it is interrupted.
-use Rattle.std.proofs.Common.{◌≡◌, ℕ, ◌-◌, length, rules, ◌∙◌, arith}
+use Rattle.std.proofs.Common.{◌≡◌, ℕ, ◌-◌, length, rules, ◌∙◌}
 use Rattle.std.proofs.lemmas.Result.{IfOk-from_err}
 use borrow.Rule.Slice.PartMut.{put_mid}
 use Rattle.xfs_files.proofs.Pieces.{all_read, has_read_more, has_read_none}
