@@ -5,7 +5,7 @@ use Rattle.std.specs.List.{list_all, range_with_len}
 use Rattle.std.specs.Cmp.Derive.{both_true}
 use Rattle.std.proofs.lemmas.Bool.{le-leb, eq-eqb}
 use Rattle.std.proofs.Math.Nat.{mod-eq_of_lt}
-use Rattle.xfs_log.specs.Log.{is_of_cycle, sector_at, last_header, nearest_header, header_sectors, data_sectors, has_unmount_flag, is_unmount, ends_at, ends_in_unmount, is_unmounted, head_number, state_of}
+use Rattle.xfs_log.specs.Log.{is_of_cycle, sector_at, last_header, nearest_header, data_sectors, has_unmount_flag, is_unmount, ends_at, ends_in_unmount, is_unmounted, head_number, state_of}
 use Rattle.xfs_log.specs.BlankLog.{blank_seen, blank_log}
 use Rattle.xfs_log.specs.declared.sectors.SectorSeen.{SectorSeen}
 use Rattle.xfs_log.specs.declared.state.LogState.TheVariants.{Clean}
@@ -26,14 +26,14 @@ begun : ℕ → List SectorSeen → List SectorSeen
 begun cycle rest = blank_seen cycle 0 ∷ blank_seen cycle 1 ∷ rest
 
 alone_there : (cycle : ℕ) (rest : List SectorSeen) → 1 ≤ length rest → is_unmount (begun cycle rest) 0 ≡ true
-unfolding begun is_unmount header_sectors has_unmount_flag
+unfolding begun is_unmount has_unmount_flag
 alone_there cycle rest some =
     let low : 1 < length (begun cycle rest) = omega arith in
     let at : 1 % length (begun cycle rest) ≡ 1 = mod-eq_of_lt low in
     ap (λ (k : ℕ). has_unmount_flag (sector_at (begun cycle rest) k)) at
 
 ends_there : (cycle : ℕ) (rest : List SectorSeen) → ends_at (begun cycle rest) 0 2 ≡ true
-unfolding begun ends_at header_sectors data_sectors
+unfolding begun ends_at data_sectors
 ends_there cycle rest = eq-eqb _ _ refl
 
 ends : (cycle : ℕ) (rest : List SectorSeen) → 1 ≤ length rest → ends_in_unmount (begun cycle rest) 2 ≡ true

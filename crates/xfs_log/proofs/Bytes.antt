@@ -12,23 +12,12 @@ zero_byte bytes at width k none low high =
     ∙ (sym (get_or-take width (drop at bytes) (k - at) 0 inside ∙ get_or-drop at bytes (k - at) 0)
     ∙ (ap (λ (xs : List ℕ). get_or xs (k - at) 0) none ∙ get_or-replicate width (k - at) 0 0 inside))
 
--- a number of one byte, and one of four
+-- a number of one byte
 pub zero_field_1 : (bytes : List ℕ) (at width a : ℕ) → IsZero bytes at width → at ≤ a → a + 1 ≤ at + width → field_of bytes a 1 ≡ 0
 unfolding field_of
 zero_field_1 bytes at width a is_zero low high =
     let first : get_or (drop a bytes) 0 0 ≡ 0 = get_or-drop a bytes 0 0 ∙ zero_byte bytes at width (a + 0) is_zero (omega arith) (omega arith) in
     omega (arith, first)
-
-pub zero_field_4 : (bytes : List ℕ) (at width a : ℕ) → IsZero bytes at width → at ≤ a → a + 4 ≤ at + width → field_of bytes a 4 ≡ 0
-unfolding field_of
-zero_field_4 bytes at width a is_zero low high =
-    let none : (k : ℕ) → k < 4 → get_or (drop a bytes) k 0 ≡ 0 =
-    λ k inside. get_or-drop a bytes k 0 ∙ zero_byte bytes at width (a + k) is_zero (omega arith) (omega arith) in
-    let first = none 0 (omega arith) in
-    let second = none 1 (omega arith) in
-    let third = none 2 (omega arith) in
-    let fourth = none 3 (omega arith) in
-    omega (arith, first, second, third, fourth)
 
 -- the second byte of the number at 8
 pub second_byte : (bytes : List ℕ) → ((k : ℕ) → get_or bytes k 0 < 256) → field_of bytes 9 1 ≡ field_of bytes 8 4 / 2 ^ 16 % 2 ^ 8

@@ -43,9 +43,9 @@ IsBlank cycle (suc (suc place)) uuid sector = IsBlankRest cycle sector
 
 -- what the sector of a blank log at a place says
 abbrev pub blank_seen : ℕ → ℕ → SectorSeen
-blank_seen cycle zero = record { cycle = cycle; header = true; version = 2; len = 512; ops = 1; size = 32768; flag = 0 }
-blank_seen cycle (suc zero) = record { cycle = cycle; header = false; version = 0xaa20_0000; len = 0x6e55_0000; ops = 0; size = 0; flag = 0x20 }
-blank_seen cycle (suc (suc place)) = record { cycle = cycle - 1; header = false; version = 0; len = 0; ops = 0; size = 0; flag = 0 }
+blank_seen cycle zero = record { cycle = cycle; header = true; header_sectors = 1; len = 512; single = true; flag = 0 }
+blank_seen cycle (suc zero) = record { cycle = cycle; header = false; header_sectors = 0; len = 0; single = false; flag = 0x20 }
+blank_seen cycle (suc (suc place)) = record { cycle = cycle - 1; header = false; header_sectors = 0; len = 0; single = false; flag = 0 }
 
 -- what so many sectors of a blank log say
 unfoldable pub blank_log : ℕ → ℕ → List SectorSeen

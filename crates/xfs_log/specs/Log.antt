@@ -1,5 +1,5 @@
 -- When a log is clean (chapter "Journaling Log"). Which logs count as clean is a choice of this project.
-use Rattle.std.specs.Prelude.{◌≡◌, ℕ, ◌+◌, ◌-◌, ◌*◌, ◌/◌, ◌%◌, ◌^◌, ◌⊎◌, Bool, false, not, ◌&&◌, ◌||◌, ◌==◌, nat_le, nat_lt, min, if◌then◌else◌, List, [], ◌∷◌, length, take, drop, slice_index_or, Option, Some, None, IsTrue}
+use Rattle.std.specs.Prelude.{◌≡◌, ℕ, ◌+◌, ◌-◌, ◌*◌, ◌/◌, ◌%◌, ◌^◌, ◌⊎◌, Bool, true, false, not, ◌&&◌, ◌||◌, ◌==◌, nat_le, nat_lt, min, if◌then◌else◌, List, [], ◌∷◌, length, take, drop, slice_index_or, Option, Some, None, IsTrue}
 use Rattle.std.specs.List.{list_all, prefix_len}
 use Rattle.std.specs.Int.RustNames.{bit_and}
 use Rattle.xfs_geom.specs.Features.{or_else}
@@ -12,22 +12,28 @@ use Rattle.xfs_log.specs.declared.state.LogState.TheVariants.{Clean, Dirty}
 abbrev pub is_header : List ℕ → Bool
 is_header sector = field_of sector 0 4 == 0xfeed_babe
 
--- what of a sector says whether the log is clean: a header has its cycle behind the magic number, any other sector at its
--- start
-unfoldable pub seen_of : List ℕ → SectorSeen
-seen_of sector = record {
-  cycle = if is_header sector then field_of sector 4 4 else field_of sector 0 4;
-  header = is_header sector;
-  version = field_of sector 8 4;
+-- the header sectors of a record: where its version has bit 1 set, one for each 32768 bytes of its buffer
+unfoldable pub sectors_of_header : ℕ → ℕ → ℕ
+sectors_of_header version size = if not (bit_and version 2 == 0) && nat_lt 32768 size then (size + 32767) / 32768 else 1
+
+-- what a header says: it has its cycle behind the magic number
+abbrev pub header_seen : List ℕ → SectorSeen
+header_seen sector = record {
+  cycle = field_of sector 4 4;
+  header = true;
+  header_sectors = sectors_of_header (field_of sector 8 4) (field_of sector 320 4);
   len = field_of sector 12 4;
-  ops = field_of sector 40 4;
-  size = field_of sector 320 4;
+  single = field_of sector 40 4 == 1;
   flag = field_of sector 9 1;
 }
 
--- the header sectors of a record: where its version has bit 1 set, one for each 32768 bytes of its buffer
-unfoldable pub header_sectors : SectorSeen → ℕ
-header_sectors header = if not (bit_and header.version 2 == 0) && nat_lt 32768 header.size then (header.size + 32767) / 32768 else 1
+-- what any other sector says: it has its cycle at its start
+abbrev pub data_seen : List ℕ → SectorSeen
+data_seen sector = record { cycle = field_of sector 0 4; header = false; header_sectors = 0; len = 0; single = false; flag = field_of sector 9 1 }
+
+-- what of a sector says whether the log is clean
+unfoldable pub seen_of : List ℕ → SectorSeen
+seen_of sector = if is_header sector then header_seen sector else data_seen sector
 
 -- the data sectors of a record
 unfoldable pub data_sectors : SectorSeen → ℕ
@@ -52,7 +58,7 @@ first_cycle (sector ∷ sectors) = sector.cycle
 
 -- what stands at no place of a log
 abbrev pub no_sector : SectorSeen
-no_sector = record { cycle = 0; header = false; version = 0; len = 0; ops = 0; size = 0; flag = 0 }
+no_sector = record { cycle = 0; header = false; header_sectors = 0; len = 0; single = false; flag = 0 }
 
 -- the sector at a place of the log
 abbrev pub sector_at : List SectorSeen → ℕ → SectorSeen
@@ -76,13 +82,13 @@ nearest_header seen head = or_else (last_header (take head seen)) (last_header s
 -- flag
 unfoldable pub is_unmount : List SectorSeen → ℕ → Bool
 is_unmount seen start =
-    (sector_at seen start).ops == 1
+    (sector_at seen start).single
     && not ((sector_at seen start).len == 0)
-    && has_unmount_flag (sector_at seen ((start + header_sectors (sector_at seen start)) % length seen))
+    && has_unmount_flag (sector_at seen ((start + (sector_at seen start).header_sectors) % length seen))
 
 -- the sectors of the record that a header begins
 abbrev pub record_sectors : SectorSeen → ℕ
-record_sectors header = header_sectors header + data_sectors header
+record_sectors header = header.header_sectors + data_sectors header
 
 -- the record that a header begins ends before this sector, going around
 unfoldable pub ends_at : List SectorSeen → ℕ → ℕ → Bool

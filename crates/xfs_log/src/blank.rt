@@ -93,7 +93,7 @@ fn put_back(uuid: &[u8; 16], sector: &mut [u8])
 {
     put32(sector, FMT.offset, LITTLE_ENDIAN);
     put_part(sector, FS_UUID.offset, uuid);
-    put32(sector, SIZE.offset, HEADER_SPAN as u32);
+    put32(sector, SIZE.offset, HEADER_SPAN);
 }
 
 /// Writes the record's data, an unmount record.

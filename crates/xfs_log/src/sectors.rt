@@ -1,7 +1,7 @@
 //! What of the sectors of a log says whether it is clean.
 
-ghost use Rattle.std.specs.Prelude.{◌≡◌, ◌≤◌, length};
-ghost use Rattle.xfs_log.specs.Log.{seen_of, data_sectors, header_sectors, has_unmount_flag};
+ghost use Rattle.std.specs.Prelude.{◌≡◌, ◌^◌, ◌<◌, length};
+ghost use Rattle.xfs_log.specs.Log.{seen_of, header_seen, data_seen, sectors_of_header, record_sectors, has_unmount_flag};
 
 use crate::layout::{CYCLE, FIRST_FLAGS, LEN, MAGICNO, NUM_LOGOPS, SIZE, VERSION};
 use xfs_word::{get8, get32};
@@ -13,7 +13,7 @@ pub const MAGIC: u32 = 0xfeed_babe;
 pub const VERSION_2: u32 = 2;
 
 /// The bytes of a record's buffer for which one header sector holds the replaced numbers.
-pub const HEADER_SPAN: usize = 32768;
+pub const HEADER_SPAN: u32 = 32768;
 
 /// The bytes of a sector.
 pub const SECTOR_SIZE: usize = 512;
@@ -21,21 +21,20 @@ pub const SECTOR_SIZE: usize = 512;
 /// The flag of an operation that writes an unmount record.
 const UNMOUNT: u8 = 0x20;
 
-/// What of a sector of the log says whether the log is clean. The numbers but the cycle are those that a
-/// record's header has at their places, whether the sector is one or not.
+/// What of a sector of the log says whether the log is clean. A list of these is made, of hundreds of thousands for a large log, so
+/// they are small: of a header's numbers what is asked for, and of any other sector's none.
 #[derive(Clone, Copy, Debug, PartialEq, Eq)]
 pub struct SectorSeen {
     /// How often the log had gone around when the sector was written.
     pub cycle: u32,
+    /// The header sectors of the record, or 0.
+    pub header_sectors: u32,
+    /// The bytes of the record's data, or 0.
+    pub len: u32,
     /// Whether the sector begins a record.
     pub header: bool,
-    pub version: u32,
-    /// The bytes of the record's data.
-    pub len: u32,
-    /// The operations of the record.
-    pub ops: u32,
-    /// The bytes of the buffer that the record was written from.
-    pub size: u32,
+    /// Whether the record has one operation.
+    pub single: bool,
     /// The flags that the sector has as the first data sector of a record.
     pub flag: u8,
 }
@@ -46,44 +45,66 @@ pub fn see_sector(sector: &[u8]) -> SectorSeen
     requires { length sector.now ≡ 512 }
     ensures { result ≡ seen_of sector.now }
 {
-    let header = get32(sector, MAGICNO.offset) == MAGIC;
-    let cycle = if header {
-        get32(sector, CYCLE.offset)
+    if get32(sector, MAGICNO.offset) == MAGIC {
+        see_header(sector)
     } else {
-        get32(sector, 0)
-    };
+        see_data(sector)
+    }
+}
+
+/// What a sector says that begins a record.
+fn see_header(sector: &[u8]) -> SectorSeen
+    requires { length sector.now ≡ 512 }
+    ensures { result ≡ header_seen sector.now }
+{
     SectorSeen {
-        cycle,
-        header,
-        version: get32(sector, VERSION.offset),
+        cycle: get32(sector, CYCLE.offset),
+        header: true,
+        header_sectors: sectors_of_header(
+            get32(sector, VERSION.offset),
+            get32(sector, SIZE.offset),
+        ),
         len: get32(sector, LEN.offset),
-        ops: get32(sector, NUM_LOGOPS.offset),
-        size: get32(sector, SIZE.offset),
+        single: get32(sector, NUM_LOGOPS.offset) == 1,
         flag: get8(sector, FIRST_FLAGS.offset),
     }
 }
 
-impl SectorSeen {
-    /// The header sectors of the record that the sector begins.
-    #[tactic(auto, unfolding(crate::specs::Log::header_sectors))]
-    pub(crate) fn header_sectors(&self) -> usize
-        ensures value { result ≡ header_sectors self.now }
-        ensures few { result ≤ 0x2_0000 }
-    {
-        if self.version & VERSION_2 != 0 && self.size as usize > HEADER_SPAN {
-            self.size.div_ceil(HEADER_SPAN as u32) as usize
-        } else {
-            1
-        }
+/// What any other sector says.
+fn see_data(sector: &[u8]) -> SectorSeen
+    requires { length sector.now ≡ 512 }
+    ensures { result ≡ data_seen sector.now }
+{
+    SectorSeen {
+        cycle: get32(sector, 0),
+        header: false,
+        header_sectors: 0,
+        len: 0,
+        single: false,
+        flag: get8(sector, FIRST_FLAGS.offset),
     }
+}
 
-    /// The data sectors of the record that the sector begins.
+/// The header sectors of a record of this version, written from a buffer of so many bytes.
+#[tactic(auto, unfolding(crate::specs::Log::sectors_of_header))]
+fn sectors_of_header(version: u32, size: u32) -> u32
+    ensures { result ≡ sectors_of_header version size }
+{
+    if version & VERSION_2 != 0 && size > HEADER_SPAN {
+        size.div_ceil(HEADER_SPAN)
+    } else {
+        1
+    }
+}
+
+impl SectorSeen {
+    /// The sectors of the record that the sector begins.
     #[tactic(auto, unfolding(crate::specs::Log::data_sectors))]
-    pub(crate) fn data_sectors(&self) -> usize
-        ensures value { result ≡ data_sectors self.now }
-        ensures few { result ≤ 0x80_0000 }
+    pub(crate) fn record_sectors(&self) -> usize
+        ensures value { result ≡ record_sectors self.now }
+        ensures few { result < 2 ^ 33 }
     {
-        (self.len as usize).div_ceil(SECTOR_SIZE)
+        self.header_sectors as usize + (self.len as usize).div_ceil(SECTOR_SIZE)
     }
 
     /// Whether the sector, as the first data sector of a record, begins with an unmount record.

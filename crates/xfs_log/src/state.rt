@@ -157,8 +157,8 @@ fn is_unmount(seen: &[SectorSeen], start: usize) -> bool
     ensures { result ≡ is_unmount seen.now start }
 {
     let header = seen[start];
-    let first_data = (start + header.header_sectors()) % seen.len();
-    header.ops == 1 && header.len != 0 && seen[first_data].has_unmount_flag()
+    let first_data = (start + header.header_sectors as usize) % seen.len();
+    header.single && header.len != 0 && seen[first_data].has_unmount_flag()
 }
 
 /// Whether the record that begins at a header ends before the sector `head`, going around.
@@ -167,9 +167,7 @@ fn ends_at(seen: &[SectorSeen], start: usize, head: usize) -> bool
     requires { start < length seen.now }
     ensures { result ≡ ends_at seen.now start head }
 {
-    let header = seen[start];
-    let sectors = header.header_sectors() + header.data_sectors();
-    (start + sectors) % seen.len() == head % seen.len()
+    (start + seen[start].record_sectors()) % seen.len() == head % seen.len()
 }
 
 /// Whether the tools of XFS cleared the log: they write 512 sectors at once, of which the first, so many,
@@ -208,9 +206,7 @@ fn is_record(seen: &[SectorSeen], head: usize) -> bool
     requires inside { head ≤ length seen.now }
     ensures { result ≡ is_record seen.now head }
 {
-    last_header(&seen[..head]) == Some(0)
-        && seen[0].header_sectors() + seen[0].data_sectors() == head
-        && is_unmount(seen, 0)
+    last_header(&seen[..head]) == Some(0) && seen[0].record_sectors() == head && is_unmount(seen, 0)
 }
 
 /// The number of the head at a sector in this cycle; behind the last sector a new cycle begins.
