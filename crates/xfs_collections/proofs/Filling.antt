@@ -1,20 +1,19 @@
 -- A bank that is filled block by block from a disk.
-use Rattle.std.proofs.Common.{◌≡◌, ℕ, ◌+◌, ◌<◌, List, [], ◌∷◌, ◌++◌, take, drop, length, get_or, Some, arith, ap, sym, ◌∙◌}
-use Rattle.std.specs.Prelude.{slice_get, slice_set}
+use Rattle.std.proofs.Common.{◌≡◌, ℕ, ◌+◌, ◌<◌, List, [], ◌∷◌, ◌++◌, take, drop, length, get_or, arith, ap, sym, ◌∙◌}
+use Rattle.std.specs.Prelude.{slice_set}
 use Rattle.std.proofs.lemmas.List.{take_more, take_more_set, drop-set-lt, drop-drop, map-append}
-use Rattle.std.proofs.lemmas.Option.{get_or_from_slice_get}
 use Rattle.xfs_disk.specs.Blocks.{Image}
 use Rattle.xfs_collections.specs.Bank.{blocks_at}
 
 -- the block of the next place stands behind the blocks of those before it
-pub next_first : (image old new : Image) (places : List ℕ) (i : ℕ) (block : List ℕ) → i < length places → i < length old → slice_get image (get_or places i 0) ≡ Some block → new ≡ slice_set old i block →
+pub next_first : (image old new : Image) (places : List ℕ) (i : ℕ) → i < length places → i < length old → new ≡ slice_set old i (get_or image (get_or places i 0) []) →
     take i old ≡ blocks_at image (take i places) → take (i + 1) new ≡ blocks_at image (take (i + 1) places)
-next_first image old new places i block within inside read put before =
-    let here : block ≡ get_or image (get_or places i 0) [] = sym (get_or_from_slice_get image (get_or places i 0) block [] read) in
-    let more : take (i + 1) new ≡ take i old ++ block ∷ [] = ap (λ (bank : Image). take (i + 1) bank) put ∙ take_more_set old i block inside in
-    let wanted : blocks_at image (take (i + 1) places) ≡ blocks_at image (take i places) ++ get_or image (get_or places i 0) [] ∷ [] =
+next_first image old new places i within inside read before =
+    let block : List ℕ = get_or image (get_or places i 0) [] in
+    let more : take (i + 1) new ≡ take i old ++ block ∷ [] = ap (λ (bank : Image). take (i + 1) bank) read ∙ take_more_set old i block inside in
+    let wanted : blocks_at image (take (i + 1) places) ≡ blocks_at image (take i places) ++ block ∷ [] =
     ap (λ (xs : List ℕ). blocks_at image xs) (take_more places i 0 within) ∙ map-append (λ place. get_or image place []) (take i places) (get_or places i 0 ∷ []) in
-    more ∙ (λ k. before k ++ here k ∷ []) ∙ sym wanted
+    more ∙ ap (λ (bank : Image). bank ++ block ∷ []) before ∙ sym wanted
 
 -- and the blocks behind it are as they were
 pub next_rest : (first old new : Image) (i : ℕ) (block : List ℕ) → new ≡ slice_set old i block → drop i old ≡ drop i first → drop (i + 1) new ≡ drop (i + 1) first

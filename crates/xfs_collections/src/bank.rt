@@ -145,10 +145,9 @@ impl BlockBank {
         ensures disk { OnlyReads D.size D.holds D.write_faults D.writes D.tells_stops D.moment D.may_leave D.left_since disk.old disk.new }
         ensures reads { D.reads disk.new ≤ D.reads disk.old + length places.now }
     {
-        let mut block = [0; BLOCK_SIZE];
         for (i, place) in places.iter().enumerate() {
-            match disk.read(*place, &mut block) {
-                Ok(()) => self.put(i, &block),
+            match self.read_block(disk, *place, i) {
+                Ok(()) => {}
                 Err(Failed) => return Err(Failed),
             }
         }
@@ -215,15 +214,6 @@ impl BlockBank {
             Ok(()) => Ok(()),
             Err(Failed) => Err(Failed),
         }
-    }
-
-    /// Puts a block in the place of block `i`.
-    fn put(&mut self, i: usize, block: &[u8])
-        requires inside { i < length self.old }
-        requires whole { length block.now ≡ 4096 }
-        ensures { self.new ≡ slice_set self.old i block.now }
-    {
-        self.view_mut(i).copy_from_slice(block);
     }
 }
 
