@@ -28,11 +28,11 @@ fn hold(rt: &impl Abort, extents: &Extents, due: &[Extent]) {
 
 /// A list that grows, and a copy of what it holds then.
 fn grown(rt: &impl Abort, alloc: Global) -> Extents {
-    let mut extents = Extents::new(alloc);
+    let mut extents = Extents::new();
     hold(rt, &extents, &[]);
-    must(rt, extents.push(FIRST));
+    must(rt, extents.push(alloc, FIRST));
     hold(rt, &extents, &[FIRST]);
-    must(rt, extents.push(SECOND));
+    must(rt, extents.push(alloc, SECOND));
     hold(rt, &extents, &[FIRST, SECOND]);
     must(rt, Extents::from_slice(alloc, extents.as_slice()))
 }
@@ -47,7 +47,8 @@ fn blocks_hold(rt: &impl Abort, alloc: Global) {
 #[test]
 fn lists(rt: HostRuntime) {
     hold(&rt, &grown(&rt, rt.alloc()), &[FIRST, SECOND]);
-    let list = Extents::from_vec(must(&rt, vec![in rt.alloc(); FIRST]));
+    let list = must(&rt, vec![in rt.alloc(); FIRST]);
+    let list = must(&rt, Extents::from_vec(rt.alloc(), list));
     hold(&rt, &list, &[FIRST]);
     blocks_hold(&rt, rt.alloc());
 }

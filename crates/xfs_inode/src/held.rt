@@ -101,7 +101,7 @@ fn list_extents(alloc: Global, slot: &[u8], count: usize) -> Result<Extents, All
 {
     let mut extents = Extents::with_capacity(alloc, count)?;
     for i in 0..count {
-        extents.push(fork_extent(slot, i))?;
+        extents.push(alloc, fork_extent(slot, i))?;
     }
     Ok(extents)
 }
@@ -140,7 +140,7 @@ fn none_held(alloc: Global, core: &Core) -> Option<DataHeld>
         return None;
     }
     Some(DataHeld {
-        extents: Extents::new(alloc),
+        extents: Extents::new(),
         blocks: Vec::new(alloc),
     })
 }

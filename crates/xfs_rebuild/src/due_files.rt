@@ -80,43 +80,34 @@ fn set_nlink(file: &mut FileRec, nlink: u32)
 }
 
 /// Adds the files that are made anew, at their places.
-pub(crate) fn add_made(
-    alloc: Global,
-    slots: &[SlotWanted],
-    files: &mut Vec<FileRec>,
-) -> Result<(), NoMemory>
+pub(crate) fn add_made(slots: &[SlotWanted], files: &mut Vec<FileRec>) -> Result<(), NoMemory>
     ensures { OnOk result (files.new.items ≡ with_made_files (made_files slots.now) files.old.items) }
 {
     for slot in slots {
-        add_made_of(alloc, slot.ino, &slot.base, files)?;
+        add_made_of(slot.ino, &slot.base, files)?;
     }
     Ok(())
 }
 
 /// Adds that of a slot, where it is made anew.
-fn add_made_of(
-    alloc: Global,
-    ino: u64,
-    base: &SlotBase,
-    files: &mut Vec<FileRec>,
-) -> Result<(), NoMemory>
+fn add_made_of(ino: u64, base: &SlotBase, files: &mut Vec<FileRec>) -> Result<(), NoMemory>
     ensures { OnOk result (files.new.items ≡ with_made_files (made_of ino base.now) files.old.items) }
 {
     match base {
         SlotBase::Kept => Ok(()),
         SlotBase::Free => Ok(()),
-        SlotBase::Fresh(core) => add_file(new_file(alloc, ino, core), files),
+        SlotBase::Fresh(core) => add_file(new_file(ino, core), files),
     }
 }
 
 /// A file that is made anew.
-fn new_file(alloc: Global, ino: u64, core: &Core) -> FileRec
+fn new_file(ino: u64, core: &Core) -> FileRec
     ensures { result ≡ new_file ino core.now }
 {
     FileRec {
         ino,
         core: *core,
-        extents: Extents::new(alloc),
+        extents: Extents::new(),
         attr_extents: Few::new(),
         tree: Few::new(),
         attrs: Few::new(),

@@ -100,7 +100,7 @@ fn due_names(
         entries,
         dirs,
     } = kept;
-    let files = due_files(alloc, files.into_vec(), dues.as_slice(), slots)?;
+    let files = due_files(files.into_vec(), dues.as_slice(), slots)?;
     let dirs = dirs_with(root, fresh.as_slice(), dirs.into_vec())?;
     Ok(DueNames {
         files: Records::from_vec(files),
@@ -127,7 +127,6 @@ fn links_of_kept(alloc: Global, root: u64, kept: &Salvaged) -> Result<Vec<u32>, 
 
 /// The files, where each is to have so many links, with those that are made anew.
 fn due_files(
-    alloc: Global,
     files: Vec<FileRec>,
     dues: &[u32],
     slots: &[SlotWanted],
@@ -138,7 +137,7 @@ fn due_files(
 {
     let mut files = files;
     set_links(files.as_mut_slice(), dues);
-    add_made(alloc, slots, &mut files)?;
+    add_made(slots, &mut files)?;
     Ok(files)
 }
 

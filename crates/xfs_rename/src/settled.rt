@@ -6,7 +6,6 @@ ghost use Rattle.xfs_disk.specs.Lists.{is_among};
 ghost use Rattle.xfs_naming.specs.Naming.{NumbersAscend};
 ghost use Rattle.xfs_rename.specs.Settled.{fresh_with, is_old, staying_file, staying_files, with_number_in_order, with_numbers};
 
-use std::alloc::Global;
 use xfs_changes::Lost;
 use xfs_disk::NoMemory;
 use xfs_salvage::is_among;
@@ -14,16 +13,11 @@ use xfs_volume::{Extents, Few, FileRec};
 
 /// The files that were there before, without the blocks of directories that are built anew.
 #[tactic(auto, unfolding(crate::specs::Settled::staying_files))]
-pub(crate) fn staying_files(
-    alloc: Global,
-    rebuilt: &[u64],
-    fresh: &[u64],
-    files: Vec<FileRec>,
-) -> Vec<FileRec>
+pub(crate) fn staying_files(rebuilt: &[u64], fresh: &[u64], files: Vec<FileRec>) -> Vec<FileRec>
     requires rebuilt { NumbersAscend 0 rebuilt.now }
     ensures { result.items ≡ staying_files rebuilt.now fresh.now files.items }
 {
-    leave_all(alloc, rebuilt, old_files(fresh, files))
+    leave_all(rebuilt, old_files(fresh, files))
 }
 
 /// The files that were there before. Mostly none is made anew, and they are not gone through.
@@ -39,32 +33,32 @@ fn old_files(fresh: &[u64], files: Vec<FileRec>) -> Vec<FileRec>
 }
 
 /// Has each of these directories among files give its blocks up.
-fn leave_all(alloc: Global, rebuilt: &[u64], files: Vec<FileRec>) -> Vec<FileRec>
+fn leave_all(rebuilt: &[u64], files: Vec<FileRec>) -> Vec<FileRec>
     requires rebuilt { NumbersAscend 0 rebuilt.now }
     ensures { result.items ≡ map (staying_file rebuilt.now) files.items }
 {
     let mut files = files;
-    leave_each(alloc, rebuilt, files.as_mut_slice());
+    leave_each(rebuilt, files.as_mut_slice());
     files
 }
 
 /// The same in place.
-fn leave_each(alloc: Global, rebuilt: &[u64], files: &mut [FileRec])
+fn leave_each(rebuilt: &[u64], files: &mut [FileRec])
     requires rebuilt { NumbersAscend 0 rebuilt.now }
     ensures { files.new ≡ map (staying_file rebuilt.now) files.old }
 {
     for file in files.iter_mut() {
-        leave_data(alloc, rebuilt, file);
+        leave_data(rebuilt, file);
     }
 }
 
 /// Has a file give its blocks up, but for those of its attributes, where it is a directory that is built anew.
-fn leave_data(alloc: Global, rebuilt: &[u64], file: &mut FileRec)
+fn leave_data(rebuilt: &[u64], file: &mut FileRec)
     requires rebuilt { NumbersAscend 0 rebuilt.now }
     ensures { file.new ≡ staying_file rebuilt.now file.old }
 {
     if is_among(rebuilt, file.ino) {
-        file.extents = Extents::new(alloc);
+        file.extents = Extents::new();
         file.tree = Few::new();
     }
 }

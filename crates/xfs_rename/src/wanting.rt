@@ -228,7 +228,7 @@ fn staying_of(
     requires rebuilt { NumbersAscend 0 rebuilt.now }
     ensures { IfOk result (λ kept. kept ≡ record { clusters = clusters; files = staying_files rebuilt.now fresh files; fresh = fresh_with lost.now fresh; entries = []; dirs = [] }) }
 {
-    let files = staying_files(alloc, rebuilt, fresh.as_slice(), files.into_vec());
+    let files = staying_files(rebuilt, fresh.as_slice(), files.into_vec());
     let fresh = fresh_with(lost, fresh.into_vec())?;
     Ok(Salvaged {
         clusters,

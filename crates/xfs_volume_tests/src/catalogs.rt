@@ -303,7 +303,7 @@ impl Item for FileRec {
         FileRec {
             ino: core.ino,
             core,
-            extents: Extents::from_vec(extents(rt, alloc, row)),
+            extents: must(rt, Extents::from_vec(alloc, extents(rt, alloc, row))),
             attr_extents: must(rt, Few::from_vec(alloc, extents(rt, alloc, row))),
             tree: must(
                 rt,

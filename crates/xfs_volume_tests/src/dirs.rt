@@ -55,7 +55,7 @@ fn directory(rt: &impl Abort, alloc: Global, core: Core, count: u64, unwritten: 
     FileRec {
         ino: 131,
         core,
-        extents: Extents::from_vec(must(rt, vec![in alloc; extent])),
+        extents: must(rt, Extents::from_slice(alloc, &[extent])),
         attr_extents: Few::new(),
         tree: Few::new(),
         attrs: Few::new(),

@@ -42,7 +42,7 @@ fn file(rt: &impl Abort, alloc: Global, mode: u16, offset: u64) -> FileRec {
             uuid: [0; 16],
             ..ROOT
         },
-        extents: Extents::from_vec(data),
+        extents: must(rt, Extents::from_vec(alloc, data)),
         attr_extents: must(rt, Few::from_vec(alloc, attr_extents)),
         tree: must(rt, Few::from_vec(alloc, tree)),
         attrs: Few::new(),
