@@ -11,15 +11,14 @@ use xfs_log::{LogState, SectorSeen, blank_log_sector, log_state, see_sector};
 const NEW: SectorSeen = SectorSeen {
     cycle: 0,
     header: false,
-    version: 0,
+    header_sectors: 0,
     len: 0,
-    ops: 0,
-    size: 0,
+    single: false,
     flag: 0,
 };
 
-/// A sector: `new`; `data` of a cycle with these flags; the `header` of a record, of a cycle, with so many bytes and
-/// operations, in a buffer of 32768 bytes; or a `record` with its cycle, version, bytes, operations, buffer and flags.
+/// A sector: `new`; `data` of a cycle with these flags; the one `header` of a record, of a cycle, with so many bytes and
+/// operations; or a `record` with its cycle, header sectors, bytes, operations and flags.
 fn sector_of(rt: &impl Abort, mut row: Row) -> SectorSeen {
     match row.word() {
         "new" => NEW,
@@ -31,23 +30,27 @@ fn sector_of(rt: &impl Abort, mut row: Row) -> SectorSeen {
         "header" => SectorSeen {
             cycle: row.number(rt),
             header: true,
-            version: 2,
+            header_sectors: 1,
             len: row.number(rt),
-            ops: row.number(rt),
-            size: 32768,
+            single: is_single(rt, &mut row),
             flag: 0,
         },
         "record" => SectorSeen {
             cycle: row.number(rt),
             header: true,
-            version: row.number(rt),
+            header_sectors: row.number(rt),
             len: row.number(rt),
-            ops: row.number(rt),
-            size: row.number(rt),
+            single: is_single(rt, &mut row),
             flag: row.number(rt),
         },
         word => refuse(rt, "no sector", word),
     }
+}
+
+/// Whether the number of operations that is next is 1.
+fn is_single(rt: &impl Abort, row: &mut Row) -> bool {
+    let operations: u32 = row.number(rt);
+    operations == 1
 }
 
 /// The sectors of these runs, in each of which so many are equal.
@@ -100,22 +103,22 @@ const RECORDS: &str = "\
 two operations | 1 header 3 512 2, 1 data 3 32, 62 data 2 0 | dirty
 no data | 1 data 3 32, 1 header 3 0 1, 62 data 2 0 | dirty
 two sectors | 1 header 3 513 1, 1 data 3 32, 1 data 3 0, 61 data 2 0 | clean 3 3
-two headers | 1 record 3 2 512 1 32769 0, 1 data 3 0, 1 data 3 255, 61 data 2 0 | clean 3 3
-flag in the header | 1 record 3 2 512 1 32769 0, 1 data 3 32, 1 data 3 0, 61 data 2 0 | dirty
-version 1 | 1 record 3 1 512 1 32769 0, 1 data 3 32, 62 data 2 0 | clean 3 2
-greatest | 1 record 3 2 4294967295 1 4294967295 0, 1 data 3 32, 62 data 2 0 | dirty
+two headers | 1 record 3 2 512 1 0, 1 data 3 0, 1 data 3 255, 61 data 2 0 | clean 3 3
+flag in the header | 1 record 3 2 512 1 0, 1 data 3 32, 1 data 3 0, 61 data 2 0 | dirty
+one header | 1 record 3 1 512 1 0, 1 data 3 32, 62 data 2 0 | clean 3 2
+greatest | 1 record 3 131072 4294967295 1 0, 1 data 3 32, 62 data 2 0 | dirty
 more than once | 1 header 3 33280 1, 1 data 3 32, 62 data 2 0 | clean 3 2
 ";
 
 /// Records around the end of a log.
 const AROUND_THE_END: &str = "\
 data first | 1 data 3 32, 62 data 2 0, 1 header 2 512 1 | clean 3 1
-header first | 1 data 3 0, 1 data 3 32, 61 data 2 0, 1 record 2 2 512 1 65536 0 | clean 3 2
+header first | 1 data 3 0, 1 data 3 32, 61 data 2 0, 1 record 2 2 512 1 0 | clean 3 2
 header last | 63 data 3 32, 1 header 3 512 1 | dirty
 one cycle | 62 data 3 0, 1 header 3 512 1, 1 data 3 32 | clean 4 0
 last cycle alone | 62 data 4294967295 0, 1 header 4294967295 512 1, 1 data 4294967295 32 | clean 4294967295 4294967295
 last cycle | 1 header 4294967295 512 1, 1 data 4294967295 32, 62 data 4294967294 0 | clean 4294967295 2
-one sector | 1 record 6 2 512 1 32768 32 | clean 7 0
+one sector | 1 record 6 1 512 1 32 | clean 7 0
 ";
 
 /// Logs that were cleared, or not.
@@ -139,8 +142,8 @@ two cycles | 1 header 4 512 1, 1 data 4 32, 510 new, 88 data 3 0, 1 data 2 0 | d
 const REAL: &str = "\
 fresh | 1 header 1 512 1, 1 data 1 32, 7022 new | clean 1 2
 its flag taken | 1 header 1 512 1, 1 data 1 0, 7022 new | dirty
-mounted once | 1 header 1 512 1, 1 data 1 32, 1 header 1 2048 16, 4 data 1 0, 1 header 1 2560 26, 5 data 1 0, 1 header 1 1024 12, 2 data 1 0, 1 header 1 512 5, 1 data 1 0, 1 header 1 512 5, 1 data 1 0, 1 header 1 512 1, 1 data 1 32, 4076 record 0 2 0 0 0 0, 3902 new | clean 1 22
-cleared by xfs_repair | 1 header 4 512 1, 1 data 4 32, 510 new, 1 record 3 2 258048 1 262144 0, 511 data 3 0, 1 record 3 2 258048 1 262144 0, 511 data 3 0, 1 record 3 2 161280 1 163840 0, 319 data 3 0 | clean 4 2
+mounted once | 1 header 1 512 1, 1 data 1 32, 1 header 1 2048 16, 4 data 1 0, 1 header 1 2560 26, 5 data 1 0, 1 header 1 1024 12, 2 data 1 0, 1 header 1 512 5, 1 data 1 0, 1 header 1 512 5, 1 data 1 0, 1 header 1 512 1, 1 data 1 32, 4076 record 0 1 0 0 0, 3902 new | clean 1 22
+cleared by xfs_repair | 1 header 4 512 1, 1 data 4 32, 510 new, 1 record 3 8 258048 1 0, 511 data 3 0, 1 record 3 8 258048 1 0, 511 data 3 0, 1 record 3 5 161280 1 0, 319 data 3 0 | clean 4 2
 ";
 
 #[test]
@@ -186,21 +189,28 @@ fn blank_sectors(rt: HostRuntime) {
     }
 }
 
-/// The sector of a record's header, and what is seen of it.
-const SEEN: &str =
-    "0 feedbabe, 4 00000007, 8 00000002, 12 00000800, 40 00000010, 320 00008000 | header 7 2048 16";
+/// The sectors of records' headers, and what is seen of them.
+const SEEN: &str = "\
+0 feedbabe, 4 00000007, 8 00000002, 12 00000800, 40 00000010, 320 00008000 | header 7 2048 16
+0 feedbabe, 4 00000007, 8 00000002, 12 00000200, 40 00000001, 320 00008001 | record 7 2 512 1 0
+0 feedbabe, 4 00000007, 8 00000001, 12 00000200, 40 00000001, 320 00008001 | record 7 1 512 1 0
+0 feedbabe, 4 00000007, 8 00a00003, 12 ffffffff, 40 00000001, 320 ffffffff | record 7 131072 4294967295 1 160
+";
 
-/// Another magic number and another version.
+/// Another magic number and another version, which is none.
 const CHANGED: &str = "0 feedbabd, 8 aa200000";
 
 #[test]
 fn seen_sectors(rt: HostRuntime) {
     let mut sector = [0; 512];
-    let mut row = Row::new(SEEN);
-    put_parts(&rt, &mut sector, row.text());
-    equal(&rt, see_sector(&sector), sector_of(&rt, row));
+    for i in 0..line_count(SEEN) {
+        let line = line_at(SEEN, i);
+        let mut row = Row::new(line);
+        put_parts(&rt, &mut sector, row.text());
+        equal_at(&rt, see_sector(&sector), sector_of(&rt, row), line);
+    }
     put_parts(&rt, &mut sector, CHANGED);
     let due =
-        "SectorSeen { cycle: 4276992701, header: false, version: 2854223872, len: 2048, ops: 16, size: 32768, flag: 32 }";
+        "SectorSeen { cycle: 4276992701, header_sectors: 0, len: 0, header: false, single: false, flag: 32 }";
     tells(&rt, &see_sector(&sector), due, CHANGED);
 }
