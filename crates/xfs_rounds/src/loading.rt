@@ -27,13 +27,57 @@ pub fn load_round<D: Disk, L: Ledger>(
     ensures disk { OnlyReads D.size D.holds D.write_faults D.writes D.tells_stops D.moment D.may_leave D.left_since disk.old disk.new }
     ensures reads { D.reads disk.new + steps.old ≤ D.reads disk.old + steps.new }
 {
-    let mut bank = match BlockBank::make(alloc, round.len()) {
-        Ok(bank) => bank,
-        Err(NoMemory) => return Err(RoundFault::NoMemory),
-    };
+    match BlockBank::make(alloc, round.len()) {
+        Ok(bank) => fill_round(disk, round, bank, steps),
+        Err(NoMemory) => Err(RoundFault::NoMemory),
+    }
+}
+
+/// The same into the bank of a round before it, which serves again where it has as many blocks.
+pub fn reload_round<D: Disk, L: Ledger>(
+    alloc: Global,
+    disk: &mut D,
+    round: &[u64],
+    bank: BlockBank,
+    steps: &mut Steps<L>,
+) -> Result<BlockBank, RoundFault>
+    requires inside { All (λ block. block < D.size disk.old) round.now }
+    ensures size { IfOk result (λ bank. length bank ≡ length round.now) }
+    ensures held { IfOk result (λ bank. ForSome (D.holds disk.old) (λ image. bank ≡ blocks_at image round.now)) }
+    ensures cause { HasRoundCause (D.faults disk.old) (D.faults disk.new) result }
+    ensures disk { OnlyReads D.size D.holds D.write_faults D.writes D.tells_stops D.moment D.may_leave D.left_since disk.old disk.new }
+    ensures reads { D.reads disk.new + steps.old ≤ D.reads disk.old + steps.new }
+{
+    if bank.len() == round.len() {
+        fill_round(disk, round, bank, steps)
+    } else {
+        drop(bank);
+        load_round(alloc, disk, round, steps)
+    }
+}
+
+/// The same into a bank of as many blocks.
+fn fill_round<D: Disk, L: Ledger>(
+    disk: &mut D,
+    round: &[u64],
+    bank: BlockBank,
+    steps: &mut Steps<L>,
+) -> Result<BlockBank, RoundFault>
+    requires inside { All (λ block. block < D.size disk.old) round.now }
+    requires room { length bank ≡ length round.now }
+    ensures size { IfOk result (λ bank. length bank ≡ length round.now) }
+    ensures held { IfOk result (λ bank. ForSome (D.holds disk.old) (λ image. bank ≡ blocks_at image round.now)) }
+    ensures cause { HasRoundCause (D.faults disk.old) (D.faults disk.new) result }
+    ensures disk { OnlyReads D.size D.holds D.write_faults D.writes D.tells_stops D.moment D.may_leave D.left_since disk.old disk.new }
+    ensures reads { D.reads disk.new + steps.old ≤ D.reads disk.old + steps.new }
+{
+    let mut bank = bank;
     steps.tick_often(round.len());
     match bank.fill(disk, round) {
         Ok(()) => Ok(bank),
-        Err(Failed) => Err(RoundFault::ReadFault),
+        Err(Failed) => {
+            drop(bank);
+            Err(RoundFault::ReadFault)
+        }
     }
 }

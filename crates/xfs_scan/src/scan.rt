@@ -15,10 +15,10 @@ ghost use Rattle.xfs_slots.specs.Gathered.{gathered, held_in, inodes_of_blocks, 
 use std::alloc::Global;
 use std::sync::ledger::Ledger;
 use std::thread::Threads;
-use xfs_collections::Steps;
+use xfs_collections::{BlockBank, Steps};
 use xfs_disk::{Disk, Gate, NoMemory};
 use xfs_geom::Geometry;
-use xfs_rounds::{RoundFault, SlotFact, judge_round, load_round, settle_round};
+use xfs_rounds::{RoundFault, SlotFact, judge_round, reload_round, settle_round};
 use xfs_slots::{Inodes, PartFault, blocks_of_candidates, take_round};
 use xfs_volume::ClusterRec;
 
@@ -100,13 +100,20 @@ fn scan_blocks<R: Threads + Sync, D: Disk, G: Gate, L: Ledger>(
     ensures reads { D.reads disk.new + steps.old ≤ D.reads disk.old + steps.new }
 {
     let size = round_size(workers);
+    let mut bank = match BlockBank::make(alloc, 0) {
+        Ok(bank) => bank,
+        Err(NoMemory) => return Err(PartFault::NoMemory),
+    };
     let mut start = 0;
     while start < blocks.len() {
         let round = round_from(blocks, start, size);
         match scan_round(
-            rt, alloc, g, disk, round, workers, gate, slots, inodes, steps,
+            rt, alloc, g, disk, round, bank, workers, gate, slots, inodes, steps,
         ) {
-            Ok(()) => start += round.len(),
+            Ok(used) => {
+                bank = used;
+                start += round.len();
+            }
             Err(fault) => return Err(fault),
         }
     }
@@ -133,19 +140,21 @@ fn round_from(blocks: &[u64], start: usize, size: usize) -> &[u64]
     &rest[..rest.len().min(size)]
 }
 
-/// Reads the blocks of a round, judges their slots, and takes them up.
+/// Reads the blocks of a round, into the bank of the one before where it has as many blocks, judges their slots, and takes them up.
+/// Gives the bank back.
 fn scan_round<R: Threads + Sync, D: Disk, G: Gate, L: Ledger>(
     rt: &R,
     alloc: Global,
     g: &Geometry,
     disk: &mut D,
     round: &[u64],
+    bank: BlockBank,
     workers: u32,
     gate: &G,
     slots: &mut Vec<SlotFact>,
     inodes: &mut Inodes,
     steps: &mut Steps<L>,
-) -> Result<(), PartFault>
+) -> Result<BlockBank, PartFault>
     requires inside { g.now.dblocks ≤ D.size disk.old }
     requires volume { All (λ block. block < g.now.dblocks) round.now }
     ensures slots { OnOk result (ForSome (D.holds disk.old) (λ image. slots.new.items ≡ slots.old.items ++ map (slot_fact (volume_of g.now) image) (inodes_of_blocks (volume_of g.now) round.now))) }
@@ -154,7 +163,7 @@ fn scan_round<R: Threads + Sync, D: Disk, G: Gate, L: Ledger>(
     ensures disk { OnlyReads D.size D.holds D.write_faults D.writes D.tells_stops D.moment D.may_leave D.left_since disk.old disk.new }
     ensures reads { D.reads disk.new + steps.old ≤ D.reads disk.old + steps.new }
 {
-    let bank = match load_round(alloc, disk, round, steps) {
+    let bank = match reload_round(alloc, disk, round, bank, steps) {
         Ok(bank) => bank,
         Err(RoundFault::ReadFault) => return Err(PartFault::ReadFault),
         Err(RoundFault::NoMemory) => return Err(PartFault::NoMemory),
@@ -169,7 +178,7 @@ fn scan_round<R: Threads + Sync, D: Disk, G: Gate, L: Ledger>(
         Err(RoundFault::NoMemory) => return Err(PartFault::NoMemory),
     }
     match take_round(alloc, g, disk, round, &bank, judged, slots, inodes, steps) {
-        Ok(()) => Ok(()),
+        Ok(()) => Ok(bank),
         Err(fault) => Err(fault),
     }
 }

@@ -6,7 +6,7 @@ use Rattle.xfs_slots.specs.Gathered.{gathered, gathered_both, held_in, inodes_of
 use Rattle.xfs_slots.proofs.Turns.{facts_joined, facts_start, held_joined, held_start, inodes_split}
 use Rattle.xfs_disk.proofs.Reading.{reads_none, reads_on}
 use Rattle.xfs_slots.proofs.Causes.{caused_on}
-use Rattle.xfs_scan.proofs.Counts.{counted, later}
+use Rattle.xfs_scan.proofs.Counts.{counted, later, still}
 use Rattle.xfs_scan.proofs.scan.scan_blocks.Goals as goal
 
 pub loop-start-init : goal.loop-start-init
@@ -39,13 +39,13 @@ loop-start-preserved g c =
       within = c.round_from-round.ensures.within;
       slots = λ image told. facts_joined v image (inodes_of_blocks v (take start blocks)) (inodes_of_blocks v round) (inodes_of_blocks v (take (start + length round) blocks))
           c.args.slots.now.items c.loop-start.slots.items c.scan_round.new.slots.items split (before.slots image told)
-          (c.in-Ok.ensures.slots image (before.disk.same_contents ∙ told));
+          (c.in-Ok-scan_round.ensures.slots image (before.disk.same_contents ∙ told));
       inodes = λ image told. held_joined v image (inodes_of_blocks v (take start blocks)) (inodes_of_blocks v round) (inodes_of_blocks v (take (start + length round) blocks))
           (held_in c.args.inodes.now) (held_in c.loop-start.inodes) (held_in c.scan_round.new.inodes) split (before.inodes image told)
-          (c.in-Ok.ensures.inodes image (before.disk.same_contents ∙ told));
-      later = later (D.faults c.args.disk.now) (D.faults c.loop-start.disk) (D.faults c.scan_round.new.disk) before.later c.in-Ok.ensures.cause;
-      disk = reads_on D.size D.holds D.write_faults D.writes D.tells_stops D.moment D.may_leave D.left_since c.args.disk.now c.loop-start.disk c.scan_round.new.disk before.disk c.in-Ok.ensures.disk;
-      reads = counted (D.reads c.args.disk.now) (D.reads c.loop-start.disk) (D.reads c.scan_round.new.disk) c.args.steps.now c.loop-start.steps c.scan_round.new.steps before.reads c.in-Ok.ensures.reads;
+          (c.in-Ok-scan_round.ensures.inodes image (before.disk.same_contents ∙ told));
+      later = later (D.faults c.args.disk.now) (D.faults c.loop-start.disk) (D.faults c.scan_round.new.disk) before.later c.in-Ok-scan_round.ensures.cause;
+      disk = reads_on D.size D.holds D.write_faults D.writes D.tells_stops D.moment D.may_leave D.left_since c.args.disk.now c.loop-start.disk c.scan_round.new.disk before.disk c.in-Ok-scan_round.ensures.disk;
+      reads = counted (D.reads c.args.disk.now) (D.reads c.loop-start.disk) (D.reads c.scan_round.new.disk) c.args.steps.now c.loop-start.steps c.scan_round.new.steps before.reads c.in-Ok-scan_round.ensures.reads;
     }
 
 pub returns : goal.returns
@@ -72,12 +72,17 @@ scan_round-requires-clause-inside g c = λ κs lives. subst (λ (n : ℕ). c.arg
 pub returns-in-Err : goal.returns-in-Err
 returns-in-Err g c =
     let D = g.D.Disk in
+    record { slots = tt; inodes = tt; cause = still _; disk = reads_none D.size D.holds D.write_faults D.writes D.tells_stops D.moment D.may_leave D.left_since c.args.disk.now; reads = still _ }
+
+pub returns-in-Err-scan_round : goal.returns-in-Err-scan_round
+returns-in-Err-scan_round g c =
+    let D = g.D.Disk in
     let before = c.loop-start.invariant in
-    let failed = c.in-Err.ensures in
+    let failed = c.in-Err-scan_round.ensures in
     record {
       slots = tt;
       inodes = tt;
-      cause = caused_on (D.faults c.args.disk.now) (D.faults c.loop-start.disk) (D.faults c.scan_round.new.disk) c.in-Err.fault before.later failed.cause;
+      cause = caused_on (D.faults c.args.disk.now) (D.faults c.loop-start.disk) (D.faults c.scan_round.new.disk) c.in-Err-scan_round.fault before.later failed.cause;
       disk = reads_on D.size D.holds D.write_faults D.writes D.tells_stops D.moment D.may_leave D.left_since c.args.disk.now c.loop-start.disk c.scan_round.new.disk before.disk failed.disk;
       reads = counted (D.reads c.args.disk.now) (D.reads c.loop-start.disk) (D.reads c.scan_round.new.disk) c.args.steps.now c.loop-start.steps c.scan_round.new.steps before.reads failed.reads;
     }
