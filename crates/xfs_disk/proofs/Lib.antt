@@ -1,3 +1,4 @@
 pub mod Reading
 pub mod OneOrder
 pub mod Shares
+pub mod Runs

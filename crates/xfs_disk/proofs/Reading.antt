@@ -1,5 +1,5 @@
 -- A disk that is read again and again is only read.
-use Rattle.std.proofs.Common.{◌≡◌, ℕ, ◌≤◌, List, Option, refl, ◌∙◌, arith}
+use Rattle.std.proofs.Common.{ℕ, List, Option, refl, ◌∙◌, arith}
 use Rattle.xfs_disk.specs.Blocks.{Image}
 use Rattle.xfs_disk.specs.Reads.{OnlyReads}
 use Rattle.xfs_disk.specs.Stops.{GoesOn}

@@ -1,5 +1,5 @@
 -- Images: what a disk holds, as a list of blocks.
-use Rattle.std.specs.Prelude.{◌≡◌, ℕ, ◌<◌, List, [], length, Some, slice_get, slice_index, slice_index_or}
+use Rattle.std.specs.Prelude.{◌≡◌, ℕ, ◌+◌, ◌*◌, ◌<◌, List, [], length, take, drop, Some, slice_get, slice_index, slice_index_or}
 
 -- an image is a list of blocks, and a block a list of byte values
 abbrev pub Image : Type 0
@@ -18,3 +18,7 @@ pub record IsBlock (block : List ℕ) : Type 0 where
 pub record IsImage (blocks : ℕ) (image : Image) : Type 0 where
   pub count : length image ≡ blocks
   pub each : (k : ℕ) (block : List ℕ) → slice_get image k ≡ Some block → IsBlock block
+
+-- the bytes hold so many blocks of an image, those from block `at` on, one behind the other
+abbrev pub AreBlocksFrom : Image → ℕ → ℕ → List ℕ → Type 0
+AreBlocksFrom image at count bytes = (k : ℕ) → k < count → slice_get image (at + k) ≡ Some (take 4096 (drop (k * 4096) bytes))

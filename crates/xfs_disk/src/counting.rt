@@ -1,8 +1,8 @@
 //! How failures, and what went well, are counted.
 
-ghost use Rattle.std.specs.Prelude.{◌≡◌, ◌+◌, ◌≤◌};
+ghost use Rattle.std.specs.Prelude.{◌≡◌, ◌+◌, ◌≤◌, OnOk};
 ghost use Rattle.std.specs.Result.{result_ok};
-ghost use Rattle.xfs_disk.specs.Counts.{CountsDone, CountsFailure};
+ghost use Rattle.xfs_disk.specs.Counts.{CountsDone, CountsFailure, raised_times};
 ghost use Rattle.xfs_disk.specs.Faults.{Rose};
 
 use crate::failed::Failed;
@@ -34,5 +34,15 @@ pub fn count_done<T>(outcome: &Result<T, Failed>, done: &mut u64)
 {
     if outcome.is_ok() {
         *done = done.saturating_add(1);
+    }
+}
+
+/// Counts the blocks of a call where it went well.
+pub fn count_all_done<T>(outcome: &Result<T, Failed>, blocks: u64, done: &mut u64)
+    ensures all { OnOk outcome.now (done.new ≡ raised_times blocks done.old) }
+    ensures most { done.new ≤ done.old + blocks }
+{
+    if outcome.is_ok() {
+        *done = done.saturating_add(blocks);
     }
 }

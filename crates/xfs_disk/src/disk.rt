@@ -1,9 +1,9 @@
 //! A disk: numbered blocks of 4096 bytes that can be read, written and synced, and may fail.
 
-ghost use Rattle.std.specs.Prelude.{◌≡◌, ℕ, ◌≤◌, ◌<◌, ◌⊎◌, List, length, take, Option, Some, OnOk, OnErr, IfOk, slice_get, slice_set};
+ghost use Rattle.std.specs.Prelude.{◌≡◌, ℕ, ◌+◌, ◌/◌, ◌%◌, ◌^◌, ◌≤◌, ◌<◌, ◌⊎◌, List, length, take, Option, Some, OnOk, OnErr, IfOk, slice_get, slice_set};
 ghost use Rattle.std.specs.Option.{ForSome};
-ghost use Rattle.xfs_disk.specs.Blocks.{Image, IsImage, bytes_of_block};
-ghost use Rattle.xfs_disk.specs.Counts.{CountsDone};
+ghost use Rattle.xfs_disk.specs.Blocks.{AreBlocksFrom, Image, IsImage, bytes_of_block};
+ghost use Rattle.xfs_disk.specs.Counts.{CountsDone, raised_times};
 ghost use Rattle.xfs_disk.specs.Faults.{HasCause};
 ghost use Rattle.xfs_disk.specs.Stops.{EachOf, Elapses, GoesOn};
 
@@ -71,6 +71,34 @@ pub trait Disk {
         ensures stops { tells_stops self.old → (b : ℕ) (v : List ℕ) → may_leave self.new b v → may_leave self.old b v }
         ensures past { tells_stops self.old → GoesOn (moment self.old) (moment self.new) (left_since self.old) (left_since self.new) }
         ensures tells { tells_stops self.old → tells_stops self.new };
+
+    /// Reads the blocks from number `at` on, one behind the other, as many as `into` has room for. A disk that has no shorter way
+    /// reads them one by one.
+    fn read_run(&mut self, at: u64, into: &mut [u8]) -> Result<(), Failed>
+        requires inside { at + length into.old / 4096 ≤ size self.old }
+        requires whole { length into.old % 4096 ≡ 0 }
+        requires numbers { at + length into.old / 4096 ≤ 2 ^ 64 }
+        ensures bytes { OnOk result (ForSome (holds self.old) (λ image. AreBlocksFrom image at (length into.old / 4096) into.new)) }
+        ensures size { size self.new ≡ size self.old }
+        ensures holds { holds self.new ≡ holds self.old }
+        ensures cause { HasCause (faults self.old) (faults self.new) result }
+        ensures write_faults { write_faults self.new ≡ write_faults self.old }
+        ensures reads { reads self.new ≤ reads self.old + length into.old / 4096 }
+        ensures counted { OnOk result (reads self.new ≡ raised_times (length into.old / 4096) (reads self.old)) }
+        ensures writes { writes self.new ≡ writes self.old }
+        ensures stops { tells_stops self.old → (b : ℕ) (v : List ℕ) → may_leave self.new b v → may_leave self.old b v }
+        ensures past { tells_stops self.old → GoesOn (moment self.old) (moment self.new) (left_since self.old) (left_since self.new) }
+        ensures tells { tells_stops self.old → tells_stops self.new }
+    {
+        for i in 0..into.len() / BLOCK_SIZE {
+            let start = i * BLOCK_SIZE;
+            match self.read(at + i as u64, &mut into[start..start + BLOCK_SIZE]) {
+                Ok(()) => {}
+                Err(Failed) => return Err(Failed),
+            }
+        }
+        Ok(())
+    }
 
     /// Reads the first bytes of the block of number `at`, as many as `into` has.
     fn read_front(&mut self, at: u64, into: &mut [u8]) -> Result<(), Failed>

@@ -25,7 +25,7 @@ mod stamp;
 mod stream;
 mod word;
 
-pub use counting::{count_done, count_failure, counted};
+pub use counting::{count_all_done, count_done, count_failure, counted};
 pub use disk::{BLOCK_SIZE, Disk};
 pub use failed::{Failed, NoMemory};
 pub use gate::{Gate, NoGate};
