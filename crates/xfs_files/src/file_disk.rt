@@ -1,9 +1,9 @@
 //! A disk that is a file of the system.
 
-ghost use Rattle.std.specs.Prelude.{◌≡◌, ℕ, ◌*◌, ◌/◌, ◌^◌, ◌<◌, ◌≤◌, ◌↔◌, length, take, drop, Some, None, option_and_then, IsSome, IsNone, IfSome, IfOk, OnOk, OnErr, IsErr};
+ghost use Rattle.std.specs.Prelude.{◌≡◌, ℕ, ◌+◌, ◌*◌, ◌/◌, ◌^◌, ◌<◌, ◌≤◌, ◌↔◌, length, take, drop, Some, None, option_and_then, IsSome, IsNone, IfSome, IfOk, OnOk, OnErr, IsErr};
 ghost use Rattle.std.specs.Option.{ForSome};
 ghost use Rattle.std.proofs.Common.{rules};
-ghost use Rattle.xfs_disk.specs.Counts.{CountsDone, CountsFailure};
+ghost use Rattle.xfs_disk.specs.Counts.{CountsDone, CountsFailure, raised_times};
 ghost use Rattle.xfs_files.specs.System.{with_piece};
 ghost use Rattle.xfs_files.specs.Ahead.{HoldsPart};
 
@@ -12,7 +12,7 @@ use crate::system::{ByteFile, is_interrupted};
 use std::alloc::Global;
 use std::io;
 use std::io::{Error, ErrorKind};
-use xfs_disk::{BLOCK_SIZE, Disk, Failed, NoMemory, count_done, counted};
+use xfs_disk::{BLOCK_SIZE, Disk, Failed, NoMemory, count_all_done, count_done, counted};
 
 /// The bytes of a block, as a distance in a file.
 const BLOCK_BYTES: u64 = BLOCK_SIZE as u64;
@@ -139,6 +139,29 @@ impl<F: ByteFile + Drop> Disk for FileDisk<F> {
         };
         let outcome = counted(outcome, &mut self.faults);
         count_done(&outcome, &mut self.reads);
+        outcome
+    }
+
+    /// By as few calls of the system as it takes, straight into `into`. What is held ahead stays, and is not asked.
+    fn read_run(&mut self, at: u64, into: &mut [u8]) -> Result<(), Failed>
+        requires inside { at + length into.old / 4096 ≤ size_of self.old }
+        ensures opened { OnOk result (IsSome (file_of self.old)) }
+        ensures read { OnOk result (ForSome (bytes_of F.bytes self.old) (λ all. into.new ≡ take (length into.old) (drop (at * 4096) all))) }
+        ensures bytes { bytes_of F.bytes self.new ≡ bytes_of F.bytes self.old }
+        ensures size { size_of self.new ≡ size_of self.old }
+        ensures faults { CountsFailure (faults_of self.old) (faults_of self.new) result }
+        ensures write_faults { write_faults_of self.new ≡ write_faults_of self.old }
+        ensures reads { reads_of self.new ≤ reads_of self.old + length into.old / 4096 }
+        ensures counted { OnOk result (reads_of self.new ≡ raised_times (length into.old / 4096) (reads_of self.old)) }
+        ensures writes { writes_of self.new ≡ writes_of self.old }
+    {
+        let blocks = into.len() / BLOCK_SIZE;
+        let outcome = match &mut self.file {
+            Some(file) => read_at(file, at * BLOCK_BYTES, into),
+            None => Err(no_file()),
+        };
+        let outcome = counted(outcome, &mut self.faults);
+        count_all_done(&outcome, blocks as u64, &mut self.reads);
         outcome
     }
 
