@@ -64,16 +64,7 @@ pub held_at : {A B : Type 0} (f : A → List B) (xs : List A) (i : ℕ) (d : A) 
 held_at f xs i d old new all inside more held =
     grown old new (f (get_or xs i d)) (flat_map f (drop i xs)) (flat_map f (drop (i + 1) xs)) all more (ap (flat_map f) (drop_more xs i d inside)) held
 
--- what the numbers from one on hold, one number more, and all
-pub held_next : {B : Type 0} (f : ℕ → List B) (first i n : ℕ) (old new all : List B) → i < n → new ≡ old ++ f (first + i)
-    → old ++ flat_map f (range_with_len (first + i) (n - i)) ≡ all → new ++ flat_map f (range_with_len (first + (i + 1)) (n - (i + 1))) ≡ all
-held_next f first i n old new all inside more held =
-    let count : n - i ≡ suc (n - (i + 1)) = omega arith in
-    let next : first + i + 1 ≡ first + (i + 1) = omega arith in
-    let split : flat_map f (range_with_len (first + i) (n - i)) ≡ f (first + i) ++ flat_map f (range_with_len (first + (i + 1)) (n - (i + 1)))
-    = ap (λ k. flat_map f (range_with_len (first + i) k)) count ∙ ap (λ k. f (first + i) ++ flat_map f (range_with_len k (n - (i + 1)))) next in
-    grown old new (f (first + i)) (flat_map f (range_with_len (first + i) (n - i))) (flat_map f (range_with_len (first + (i + 1)) (n - (i + 1)))) all more split held
-
+-- what the numbers from one on hold, at the start and at the end
 pub held_from_start : {B : Type 0} (f : ℕ → List B) (first n : ℕ) (new : List B) → new ≡ []
     → new ++ flat_map f (range_with_len (first + 0) (n - 0)) ≡ flat_map f (range_with_len first n)
 held_from_start f first n new none =

@@ -1,7 +1,8 @@
 -- Places of log sequence numbers, as they are listed and read.
 use Rattle.std.specs.Prelude.{◌≡◌, ℕ, ◌+◌, ◌*◌, ◌≤◌, List, length, map, take, Option, Some, None, ⊤}
-use Rattle.std.specs.List.{flat_map}
+use Rattle.std.specs.List.{flat_map, range_with_len}
 use Rattle.xfs_word.specs.Field.{field_of, part_of}
+use Rattle.xfs_tree.specs.Blocks.{each_of}
 use Rattle.xfs_log.specs.Log.{seen_of}
 use Rattle.xfs_log.specs.declared.sectors.SectorSeen.{SectorSeen}
 use Rattle.xfs_word.specs.declared.extents.Extent.{Extent}
@@ -47,3 +48,7 @@ AreFirstNumbers image clusters numbers = numbers ≡ take (length numbers) (map 
 -- what is seen of a sector of a block
 abbrev pub seen_in : List ℕ → ℕ → SectorSeen
 seen_in block sector = seen_of (part_of block (512 * sector) 512)
+
+-- what is seen of the sectors of so many blocks that stand one behind the other, from block k on
+abbrev pub seen_in_blocks : List ℕ → ℕ → ℕ → List SectorSeen
+seen_in_blocks bytes k count = flat_map (λ k. each_of 8 (seen_in (part_of bytes (k * 4096) 4096))) (range_with_len k count)

@@ -1,17 +1,17 @@
 //! The log of a volume, read from a disk.
 
-ghost use Rattle.std.specs.Prelude.{◌≡◌, ◌≤◌, ◌+◌, ◌<◌, ◌++◌, length, map, IfOk, OnOk};
+ghost use Rattle.std.specs.Prelude.{◌≡◌, ◌≤◌, ◌+◌, ◌/◌, ◌%◌, ◌^◌, ◌<◌, ◌++◌, length, map, IfOk, OnOk};
 ghost use Rattle.std.specs.Option.{ForSome};
 ghost use Rattle.xfs_disk.specs.Faults.{HasCause};
 ghost use Rattle.xfs_geom.specs.Volumes.{volume_of};
 ghost use Rattle.xfs_log.specs.Log.{seen_of};
 ghost use Rattle.xfs_disk.specs.Reads.{OnlyReads};
 ghost use Rattle.xfs_tree.specs.Blocks.{each_of};
-ghost use Rattle.xfs_disk.specs.Blocks.{bytes_of_block};
+ghost use Rattle.xfs_disk.specs.Blocks.{AreBlocksFrom};
 ghost use Rattle.xfs_image.specs.View.{log_of};
 ghost use Rattle.xfs_log.specs.Sectors.{log_sectors};
 ghost use Rattle.xfs_journal.specs.Answers.{HasJournalCause};
-ghost use Rattle.xfs_journal.specs.Placed.{seen_in};
+ghost use Rattle.xfs_journal.specs.Placed.{seen_in, seen_in_blocks};
 
 use crate::faults::JournalFault;
 use std::alloc::Global;
@@ -26,6 +26,11 @@ use xfs_word::part;
 const SECTOR_SIZE: usize = 512;
 
 const SECTORS: usize = 8;
+
+/// How many blocks of the log are read by one call, and their bytes.
+const RUN_BLOCKS: usize = 16;
+
+const RUN_SIZE: usize = 65536;
 
 /// Whether the log is clean (chapter "Journaling Log"). `ReadFault` only where a read failed. Each block that is read
 /// counts as a step, also where the read fails.
@@ -62,40 +67,43 @@ fn see_log<D: Disk, L: Ledger>(
     ensures reads { D.reads disk.new + steps.old ≤ D.reads disk.old + steps.new }
 {
     let mut seen = Vec::new(alloc);
-    let mut block = [0; BLOCK_SIZE];
-    for i in 0..g.logblocks as u64 {
-        match read_block(g, disk, i, &mut block, steps) {
+    let mut run = [0; RUN_SIZE];
+    let mut i = 0;
+    while i < g.logblocks as usize {
+        let count = (g.logblocks as usize - i).min(RUN_BLOCKS);
+        match read_blocks(g, disk, i as u64, &mut run[..count * BLOCK_SIZE], steps) {
             Ok(()) => {}
             Err(Failed) => return Err(JournalFault::ReadFault),
         }
-        match see_block(&block, &mut seen) {
+        match see_blocks(&run[..count * BLOCK_SIZE], &mut seen) {
             Ok(()) => {}
             Err(NoMemory) => return Err(JournalFault::NoMemory),
         }
+        i += count;
     }
     Ok(seen)
 }
 
-/// Reads a block of the log, and counts it as a step.
-fn read_block<D: Disk, L: Ledger>(
+/// Reads blocks of the log from block `i` of it on, as many as `run` has room for, and counts each as a step.
+fn read_blocks<D: Disk, L: Ledger>(
     g: &Geometry,
     disk: &mut D,
     i: u64,
-    block: &mut [u8],
+    run: &mut [u8],
     steps: &mut Steps<L>,
 ) -> Result<(), Failed>
     requires inside { g.now.dblocks ≤ D.size disk.old }
-    requires log { i < g.now.logblocks }
-    requires whole { length block.old ≡ 4096 }
-    ensures bytes { OnOk result (ForSome (D.holds disk.old) (λ image. bytes_of_block image (g.now.log + i) ≡ block.new)) }
-    ensures whole { length block.new ≡ 4096 }
+    requires log { i + length run.old / 4096 ≤ g.now.logblocks }
+    requires some { i < g.now.logblocks }
+    requires whole { length run.old % 4096 ≡ 0 }
+    ensures bytes { OnOk result (ForSome (D.holds disk.old) (λ image. AreBlocksFrom image (g.now.log + i) (length run.old / 4096) run.new)) }
     ensures cause { HasCause (D.faults disk.old) (D.faults disk.new) result }
     ensures disk { OnlyReads D.size D.holds D.write_faults D.writes D.tells_stops D.moment D.may_leave D.left_since disk.old disk.new }
-    ensures ticks { steps.new ≡ steps.old + 1 }
-    ensures reads { D.reads disk.new ≤ D.reads disk.old + 1 }
+    ensures ticks { steps.new ≡ steps.old + length run.old / 4096 }
+    ensures reads { D.reads disk.new ≤ D.reads disk.old + length run.old / 4096 }
 {
-    steps.tick();
-    match disk.read(log_block(g, i), block) {
+    steps.tick_often(run.len() / BLOCK_SIZE);
+    match disk.read_run(log_block(g, i), run) {
         Ok(()) => Ok(()),
         Err(Failed) => Err(Failed),
     }
@@ -105,9 +113,20 @@ fn read_block<D: Disk, L: Ledger>(
 fn log_block(g: &Geometry, i: u64) -> u64
     requires { i < g.now.logblocks }
     ensures value { result ≡ g.now.log + i }
-    ensures inside { result < g.now.dblocks }
+    ensures inside { g.now.log + g.now.logblocks ≤ g.now.dblocks }
+    ensures number { g.now.dblocks < 2 ^ 64 }
 {
     g.log + i
+}
+
+/// Adds what is seen of the sectors of blocks that stand one behind the other.
+fn see_blocks(run: &[u8], seen: &mut Vec<SectorSeen>) -> Result<(), NoMemory>
+    ensures { OnOk result (seen.new.items ≡ seen.old.items ++ seen_in_blocks run.now 0 (length run.now / 4096)) }
+{
+    for k in 0..run.len() / BLOCK_SIZE {
+        see_block(part(run, k * BLOCK_SIZE, BLOCK_SIZE), seen)?;
+    }
+    Ok(())
 }
 
 /// Adds what is seen of the sectors of a block.

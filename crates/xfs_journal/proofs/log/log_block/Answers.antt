@@ -1,4 +1,4 @@
-use Rattle.std.proofs.Common.{◌≡◌, ℕ, Bool, true, false, ◌==◌, ◌≤◌, ◌<◌, ◌+◌, ◌-◌, ◌*◌, ◌/◌, ◌%◌, if◌then◌else◌, refl, arith}
+use Rattle.std.proofs.Common.{◌≡◌, ℕ, Bool, true, false, ◌==◌, ◌≤◌, ◌<◌, ◌+◌, ◌-◌, ◌*◌, ◌/◌, ◌%◌, if◌then◌else◌, refl, arith, rules}
 use Rattle.std.proofs.Math.Nat.{mul-le-mul_right}
 use Rattle.std.proofs.lemmas.Bool.Decides.{nat_tests}
 use Rattle.xfs_geom.specs.Groups.{blocks_of_group}
@@ -32,4 +32,9 @@ log_inside d w n log blocks i shape held inside =
 pub returns-clause-inside : goal.returns-clause-inside
 returns-clause-inside c =
     let g = c.args.g.now in
-    log_inside g.dblocks g.agblocks g.agcount g.log g.logblocks c.args.i g.shape.groups g.shape.log_inside c.requires
+    let some = g.shape.log_inside.large in
+    let last = log_inside g.dblocks g.agblocks g.agcount g.log g.logblocks (g.logblocks - 1) g.shape.groups g.shape.log_inside (omega (arith, some)) in
+    omega (arith, some, last)
+
+pub returns-clause-number : goal.returns-clause-number
+returns-clause-number c = search rules

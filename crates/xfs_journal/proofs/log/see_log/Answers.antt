@@ -1,60 +1,89 @@
-use Rattle.std.proofs.Common.{ℕ, ◌≤◌, ◌++◌, ap, sym, subst, ◌∙◌, arith, rules}
-use Rattle.std.proofs.lemmas.List.{length-replicate}
+-- Each turn sees the sectors of a run of blocks.
+use Rattle.std.proofs.Common.{◌≡◌, ◌≤◌, ◌<◌, ◌+◌, ◌-◌, ◌*◌, ◌/◌, ◌++◌, ℕ, List, length, take, drop, refl, ap, sym, subst, ◌∙◌, arith}
 use Rattle.std.specs.List.{range_with_len}
 use Rattle.xfs_tree.specs.Blocks.{each_of}
-use Rattle.xfs_disk.specs.Blocks.{bytes_of_block}
-use Rattle.xfs_journal.specs.Placed.{seen_in}
-use Rattle.xfs_journal.proofs.Listing.{held_from_start, held_next, held_to_end}
-use Rattle.xfs_journal.proofs.LogSeen.{all_seen}
+use Rattle.xfs_disk.specs.Blocks.{AreBlocksFrom, bytes_of_block}
+use Rattle.xfs_journal.specs.Placed.{seen_in, seen_in_blocks}
+use Rattle.xfs_journal.proofs.Listing.{held_from_start, held_to_end}
+use Rattle.xfs_journal.proofs.LogSeen.{all_seen, front_blocks, front_read, held_run, room_kept, seen_read, steps_on, whole_blocks}
 use Rattle.xfs_disk.proofs.Reading.{reads_none, reads_on}
 use Rattle.xfs_journal.proofs.Reading.{later_on, rose_on}
 use Rattle.xfs_journal.proofs.log.see_log.Goals as goal
-
-pub loop-i-preserved : goal.loop-i-preserved
-loop-i-preserved g c =
-    let D = g.D.Disk in
-    let before = c.loop-i.invariant in
-    record {
-      ends = before.ends;
-      seen = λ image told.
-          held_next (λ block. each_of 8 (seen_in (bytes_of_block image block))) c.args.g.now.log c.loop-i.i c.args.g.now.logblocks c.loop-i.seen.items c.see_block.new.seen.items _
-          (search rules) (c.in-Ok-see_block.ensures ∙ ap (λ block. c.loop-i.seen.items ++ each_of 8 (seen_in block)) (sym (c.in-Ok.ensures.bytes image (before.disk.same_contents ∙ told)))) (before.seen image told);
-      block = c.read_block.ensures.whole;
-      later = let up = before.later in let cause = c.in-Ok.ensures.cause in omega (arith, up, cause);
-      disk = reads_on D.size D.holds D.write_faults D.writes D.tells_stops D.moment D.may_leave D.left_since c.args.disk.now c.loop-i.disk c.read_block.new.disk before.disk c.read_block.ensures.disk;
-      reads = let up = before.reads in let more = c.read_block.ensures.reads in let step = c.read_block.ensures.ticks in omega (arith, up, more, step);
-    }
-
-pub returns-clause-seen : goal.returns-clause-seen
-returns-clause-seen g c = λ image told.
-    held_to_end (λ block. each_of 8 (seen_in (bytes_of_block image block))) c.args.g.now.log c.loop-i.i c.args.g.now.logblocks c.loop-i.seen.items _
-    c.loop-i-test.false (c.loop-i.invariant.seen image told)
-    ∙ sym (all_seen image (range_with_len c.args.g.now.log c.args.g.now.logblocks))
 
 pub loop-i-init : goal.loop-i-init
 loop-i-init g c =
     let D = g.D.Disk in
     record {
-      ends = search rules;
+      within = omega arith;
       seen = λ image told.
           held_from_start (λ block. each_of 8 (seen_in (bytes_of_block image block))) c.args.g.now.log c.args.g.now.logblocks c.new-seen.result.items c.new-seen.ensures.items;
-      block = length-replicate {A = ℕ} 4096 0;
+      run = refl;
       later = omega arith;
       disk = reads_none D.size D.holds D.write_faults D.writes D.tells_stops D.moment D.may_leave D.left_since c.args.disk.now;
       reads = omega arith;
     }
 
-pub read_block-requires-clause-inside : goal.read_block-requires-clause-inside
-read_block-requires-clause-inside g c = subst (λ (n : ℕ). c.args.g.now.dblocks ≤ n) (sym c.loop-i.invariant.disk.same_size) c.requires.inside
+pub loop-i-preserved : goal.loop-i-preserved
+loop-i-preserved g c =
+    let D = g.D.Disk in
+    let before = c.loop-i.invariant in
+    let n : ℕ = c.min-count.result in
+    let least = c.min-count.ensures in
+    let few : n ≤ 16 = omega (arith, least) in
+    let room : c.loop-i.i + n ≤ c.args.g.now.logblocks = omega (arith, least, c.loop-i-test.true) in
+    let front : length (take (n * 4096) c.loop-i.run) ≡ n * 4096 = front_blocks n c.loop-i.run few before.run in
+    let count : length (take (n * 4096) c.loop-i.run) / 4096 ≡ n = whole_blocks n (length (take (n * 4096) c.loop-i.run)) front in
+    let long : length c.read_blocks.new.run ≡ n * 4096 = c.read_blocks.auto.run ∙ front in
+    let shown : take (n * 4096) (c.read_blocks.new.run ++ drop (n * 4096) c.loop-i.run) ≡ c.read_blocks.new.run = front_read n c.read_blocks.new.run c.loop-i.run long in
+    record {
+      within = room;
+      seen = λ image told.
+          held_run (λ block. each_of 8 (seen_in (bytes_of_block image block))) c.args.g.now.log c.loop-i.i n c.args.g.now.logblocks c.loop-i.seen.items c.see_blocks.new.seen.items _ room
+          (c.in-Ok-see_blocks.ensures ∙ ap (λ (bytes : List ℕ). c.loop-i.seen.items ++ seen_in_blocks bytes 0 (length bytes / 4096)) shown
+              ∙ ap (λ (k : ℕ). c.loop-i.seen.items ++ seen_in_blocks c.read_blocks.new.run 0 k) (whole_blocks n (length c.read_blocks.new.run) long)
+              ∙ ap (λ xs. c.loop-i.seen.items ++ xs) (seen_read image (c.args.g.now.log + c.loop-i.i) n c.read_blocks.new.run
+                  (subst (λ (k : ℕ). AreBlocksFrom image (c.args.g.now.log + c.loop-i.i) k c.read_blocks.new.run) count (c.in-Ok.ensures.bytes image (before.disk.same_contents ∙ told)))))
+          (before.seen image told);
+      run = room_kept n c.read_blocks.new.run c.loop-i.run few long before.run;
+      later = let up = before.later in let cause = c.in-Ok.ensures.cause in omega (arith, up, cause);
+      disk = reads_on D.size D.holds D.write_faults D.writes D.tells_stops D.moment D.may_leave D.left_since c.args.disk.now c.loop-i.disk c.read_blocks.new.disk before.disk c.read_blocks.ensures.disk;
+      reads = steps_on (D.reads c.args.disk.now) (D.reads c.loop-i.disk) (D.reads c.read_blocks.new.disk) c.args.steps.now c.loop-i.steps c.read_blocks.new.steps _ before.reads c.read_blocks.ensures.reads c.read_blocks.ensures.ticks;
+    }
 
-pub returns-clause-cause : goal.returns-clause-cause
-returns-clause-cause g c = c.loop-i.invariant.later
+pub loop-i-smaller : goal.loop-i-smaller
+loop-i-smaller g c =
+    let least = c.min-count.ensures in
+    let less : c.args.g.now.logblocks - (c.loop-i.i + c.min-count.result) < c.args.g.now.logblocks - c.loop-i.i = omega (arith, least, c.loop-i-test.true) in
+    less
 
-pub returns-clause-disk : goal.returns-clause-disk
-returns-clause-disk g c = c.loop-i.invariant.disk
+pub read_blocks-requires : goal.read_blocks-requires
+read_blocks-requires g c =
+    let before = c.loop-i.invariant in
+    let n : ℕ = c.min-count.result in
+    let least = c.min-count.ensures in
+    let few : n ≤ 16 = omega (arith, least) in
+    let room : c.loop-i.i + n ≤ c.args.g.now.logblocks = omega (arith, least, c.loop-i-test.true) in
+    let front : length (take (n * 4096) c.loop-i.run) ≡ n * 4096 = front_blocks n c.loop-i.run few before.run in
+    let count : length (take (n * 4096) c.loop-i.run) / 4096 ≡ n = whole_blocks n (length (take (n * 4096) c.loop-i.run)) front in
+    record {
+      inside = subst (λ (d : ℕ). c.args.g.now.dblocks ≤ d) (sym before.disk.same_size) c.requires.inside;
+      log = omega (arith, count, room);
+      some = c.loop-i-test.true;
+      whole = omega (arith, front);
+    }
 
-pub returns-clause-reads : goal.returns-clause-reads
-returns-clause-reads g c = c.loop-i.invariant.reads
+pub returns : goal.returns
+returns g c =
+    let all = c.loop-i.invariant in
+    record {
+      seen = λ image told.
+          held_to_end (λ block. each_of 8 (seen_in (bytes_of_block image block))) c.args.g.now.log c.loop-i.i c.args.g.now.logblocks c.loop-i.seen.items _
+          (omega (arith, c.loop-i-test.false)) (all.seen image told)
+          ∙ sym (all_seen image (range_with_len c.args.g.now.log c.args.g.now.logblocks));
+      cause = all.later;
+      disk = all.disk;
+      reads = all.reads;
+    }
 
 pub returns-in-Err : goal.returns-in-Err
 returns-in-Err g c =
@@ -62,18 +91,18 @@ returns-in-Err g c =
     let before = c.loop-i.invariant in
     record {
       seen = tt;
-      cause = rose_on (D.faults c.args.disk.now) (D.faults c.loop-i.disk) (D.faults c.read_block.new.disk) before.later c.in-Err.ensures.cause;
-      disk = reads_on D.size D.holds D.write_faults D.writes D.tells_stops D.moment D.may_leave D.left_since c.args.disk.now c.loop-i.disk c.read_block.new.disk before.disk c.read_block.ensures.disk;
-      reads = let up = before.reads in let more = c.read_block.ensures.reads in let step = c.read_block.ensures.ticks in omega (arith, up, more, step);
+      cause = rose_on (D.faults c.args.disk.now) (D.faults c.loop-i.disk) (D.faults c.read_blocks.new.disk) before.later c.in-Err.ensures.cause;
+      disk = reads_on D.size D.holds D.write_faults D.writes D.tells_stops D.moment D.may_leave D.left_since c.args.disk.now c.loop-i.disk c.read_blocks.new.disk before.disk c.read_blocks.ensures.disk;
+      reads = steps_on (D.reads c.args.disk.now) (D.reads c.loop-i.disk) (D.reads c.read_blocks.new.disk) c.args.steps.now c.loop-i.steps c.read_blocks.new.steps _ before.reads c.read_blocks.ensures.reads c.read_blocks.ensures.ticks;
     }
 
-pub returns-in-Err-see_block : goal.returns-in-Err-see_block
-returns-in-Err-see_block g c =
+pub returns-in-Err-see_blocks : goal.returns-in-Err-see_blocks
+returns-in-Err-see_blocks g c =
     let D = g.D.Disk in
     let before = c.loop-i.invariant in
     record {
       seen = tt;
-      cause = later_on (D.faults c.args.disk.now) (D.faults c.loop-i.disk) (D.faults c.read_block.new.disk) before.later c.in-Ok.ensures.cause;
-      disk = reads_on D.size D.holds D.write_faults D.writes D.tells_stops D.moment D.may_leave D.left_since c.args.disk.now c.loop-i.disk c.read_block.new.disk before.disk c.read_block.ensures.disk;
-      reads = let up = before.reads in let more = c.read_block.ensures.reads in let step = c.read_block.ensures.ticks in omega (arith, up, more, step);
+      cause = later_on (D.faults c.args.disk.now) (D.faults c.loop-i.disk) (D.faults c.read_blocks.new.disk) before.later c.in-Ok.ensures.cause;
+      disk = reads_on D.size D.holds D.write_faults D.writes D.tells_stops D.moment D.may_leave D.left_since c.args.disk.now c.loop-i.disk c.read_blocks.new.disk before.disk c.read_blocks.ensures.disk;
+      reads = steps_on (D.reads c.args.disk.now) (D.reads c.loop-i.disk) (D.reads c.read_blocks.new.disk) c.args.steps.now c.loop-i.steps c.read_blocks.new.steps _ before.reads c.read_blocks.ensures.reads c.read_blocks.ensures.ticks;
     }

@@ -9,12 +9,15 @@ use Rattle.xfs_journal.proofs.log.see_log.Given as goal
 
 abbrev pub invariant-loop-i : goal.invariant-loop-i
 invariant-loop-i g l = record {
-  ends : l.i-end ≡ l.g.logblocks;
+  within : l.i ≤ l.g.logblocks;
   seen : ForSome (g.D.Disk.holds l.fn.disk) (λ image.
       l.seen.items ++ flat_map (λ block. each_of 8 (seen_in (bytes_of_block image block))) (range_with_len (l.g.log + l.i) (l.g.logblocks - l.i))
       ≡ flat_map (λ block. each_of 8 (seen_in (bytes_of_block image block))) (range_with_len l.g.log l.g.logblocks));
-  block : length l.block ≡ 4096;
+  run : length l.run ≡ 65536;
   later : g.D.Disk.faults l.fn.disk ≤ g.D.Disk.faults l.disk;
   disk : OnlyReads g.D.Disk.size g.D.Disk.holds g.D.Disk.write_faults g.D.Disk.writes g.D.Disk.tells_stops g.D.Disk.moment g.D.Disk.may_leave g.D.Disk.left_since l.fn.disk l.disk;
   reads : g.D.Disk.reads l.disk + l.fn.steps ≤ g.D.Disk.reads l.fn.disk + l.steps;
 }
+
+abbrev pub decreases-loop-i : goal.decreases-loop-i
+decreases-loop-i g l = l.g.logblocks - l.i
