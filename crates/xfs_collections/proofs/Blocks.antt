@@ -6,7 +6,7 @@ use Rattle.std.proofs.Math.Seq.{take-add}
 use Rattle.std.proofs.lemmas.List.{length-drop, length-take-le, length-append, take_at, drop_at, take-append-drop, take-append-le, take-take, drop-append-le, drop-take, drop-drop, take-replicate, drop-replicate, take_all}
 use Rattle.xfs_disk.specs.Blocks.{Image}
 use Rattle.xfs_disk.specs.Memory.{blocks_of_bytes}
-use Rattle.xfs_collections.specs.Bank.{overwritten}
+use Rattle.xfs_collections.specs.Bank.{overwritten, with_run}
 
 -- there are as many blocks as were asked for
 pub length-blocks_of : (n : ℕ) (bytes : List ℕ) → length (blocks_of_bytes n bytes) ≡ n
@@ -140,3 +140,38 @@ overwritten-block n bytes bank i block held whole inside size =
     let same : blocks_of_bytes n (take (i * 4096) bytes ++ (block ++ drop (length block) (drop (i * 4096) bytes))) ≡ blocks_of_bytes n (take (i * 4096) bytes ++ (block ++ drop 4096 (drop (i * 4096) bytes))) =
     ap (λ (m : ℕ). blocks_of_bytes n (take (i * 4096) bytes ++ (block ++ drop m (drop (i * 4096) bytes)))) size in
     sym (overwritten-held n bytes bank i block held whole) ∙ same ∙ blocks_of-set n i bytes block below (omega arith) size ∙ ap (λ (image : Image). slice_set image i block) held
+
+-- the blocks of two rows of bytes, one behind the other
+blocks_of-join : (a b : ℕ) (xs ys : List ℕ) → length xs ≡ a * 4096 → blocks_of_bytes (a + b) (xs ++ ys) ≡ blocks_of_bytes a xs ++ blocks_of_bytes b ys
+blocks_of-join a b xs ys size =
+    let less : a + b - a ≡ b = omega arith in
+    let back : drop (a * 4096) (xs ++ ys) ≡ ys = drop_at xs ys (a * 4096) size in
+    let first : take a (blocks_of_bytes (a + b) (xs ++ ys)) ≡ blocks_of_bytes a xs = take-blocks_of a (a + b) (xs ++ ys) (omega arith) ∙ blocks_of-append a xs ys (omega (arith, size)) in
+    let others : drop a (blocks_of_bytes (a + b) (xs ++ ys)) ≡ blocks_of_bytes b ys = drop-blocks_of a (a + b) (xs ++ ys) (omega arith) ∙ (λ k. blocks_of_bytes (less k) (back k)) in
+    sym (take-append-drop a (blocks_of_bytes (a + b) (xs ++ ys))) ∙ (λ k. first k ++ others k)
+
+-- the bytes of several blocks over those of a bank from a block on are these blocks in the place of as many
+pub overwritten-run : (n : ℕ) (bytes : List ℕ) (bank : Image) (i count : ℕ) (over : List ℕ) → blocks_of_bytes n bytes ≡ bank → length bytes ≡ n * 4096 → i + count ≤ length bank → length over ≡ count * 4096 → overwritten bank i over ≡ with_run bank i count over
+overwritten-run n bytes bank i count over held whole inside size =
+    let all : n ≡ length bank = sym (length-blocks_of n bytes) ∙ ap length held in
+    let parts : n ≡ i + (count + (n - (i + count))) = omega (arith, all, inside) in
+    let long : length (take (i * 4096) bytes) ≡ i * 4096 = length-take-le (i * 4096) bytes (omega (arith, whole, all, inside)) in
+    let tail : List ℕ = drop (length over) (drop (i * 4096) bytes) in
+    let cut : blocks_of_bytes i bytes ≡ blocks_of_bytes i (take (i * 4096) bytes) =
+    ap (λ (xs : List ℕ). blocks_of_bytes i xs) (sym (take-append-drop (i * 4096) bytes)) ∙ blocks_of-append i (take (i * 4096) bytes) (drop (i * 4096) bytes) (omega (arith, long)) in
+    let front : take i bank ≡ blocks_of_bytes i (take (i * 4096) bytes) = ap (λ (image : Image). take i image) (sym held) ∙ take-blocks_of i n bytes (omega (arith, all, inside)) ∙ cut in
+    let place : i * 4096 + count * 4096 ≡ (i + count) * 4096 = omega arith in
+    let behind : drop (length over) (drop (i * 4096) bytes) ≡ drop ((i + count) * 4096) bytes =
+    ap (λ (m : ℕ). drop m (drop (i * 4096) bytes)) size ∙ drop-drop (count * 4096) (i * 4096) bytes ∙ ap (λ (m : ℕ). drop m bytes) place in
+    let back : drop (i + count) bank ≡ blocks_of_bytes (n - (i + count)) (drop (length over) (drop (i * 4096) bytes)) =
+    ap (λ (image : Image). drop (i + count) image) (sym held) ∙ drop-blocks_of (i + count) n bytes (omega (arith, all, inside)) ∙ ap (λ (xs : List ℕ). blocks_of_bytes (n - (i + count)) xs) (sym behind) in
+    let run : blocks_of_bytes (count + (n - (i + count))) (over ++ tail) ≡ blocks_of_bytes count over ++ drop (i + count) bank =
+    blocks_of-join count (n - (i + count)) over tail size ∙ ap (λ (image : Image). blocks_of_bytes count over ++ image) (sym back) in
+    sym (overwritten-held n bytes bank i over held whole)
+    ∙ ap (λ (m : ℕ). blocks_of_bytes m (take (i * 4096) bytes ++ (over ++ tail))) parts
+    ∙ blocks_of-join i (count + (n - (i + count))) (take (i * 4096) bytes) (over ++ tail) long
+    ∙ (λ k. sym front k ++ run k)
+
+-- the blocks of a run lie among the bytes
+pub run_inside : (n : ℕ) (bytes : List ℕ) (bank : Image) (i count : ℕ) → blocks_of_bytes n bytes ≡ bank → length bytes ≡ n * 4096 → i + count ≤ length bank → i * 4096 + count * 4096 ≤ length bytes
+run_inside n bytes bank i count held whole inside = omega (arith, length-blocks_of n bytes, ap length held, whole, inside)

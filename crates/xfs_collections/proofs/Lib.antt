@@ -6,5 +6,5 @@ pub mod LinkSteps
 pub mod Views
 pub mod Blocks
 pub mod Cuts
-mod Filling
 mod Scattered
+mod Runs

@@ -1,5 +1,5 @@
 -- A bank of blocks: its parts by cuts, and what it holds after it was filled from a disk.
-use Rattle.std.specs.Prelude.{◌≡◌, ℕ, ◌-◌, ◌≤◌, List, [], ◌∷◌, ◌*◌, ◌++◌, length, take, drop, map, Option, slice_index_or}
+use Rattle.std.specs.Prelude.{◌≡◌, ℕ, ◌+◌, ◌-◌, ◌≤◌, ◌<◌, List, [], ◌∷◌, ◌*◌, ◌++◌, length, take, drop, map, Option, slice_index_or}
 use Rattle.std.specs.List.{concat}
 use Rattle.std.specs.Option.{ForSome}
 use Rattle.xfs_disk.specs.Blocks.{Image}
@@ -31,3 +31,15 @@ pub record IsFilledBank (held : Option Image) (places : List ℕ) (old new : Ima
 -- a bank whose bytes were overwritten by these from block i on; where they are 4096, they are block i
 abbrev pub overwritten : Image → ℕ → List ℕ → Image
 overwritten bank i bytes = blocks_of_bytes (length bank) (take (i * 4096) (concat bank) ++ (bytes ++ drop (length bytes) (drop (i * 4096) (concat bank))))
+
+-- a bank with the blocks of these bytes in the place of so many of its own from block i on
+abbrev pub with_run : Image → ℕ → ℕ → List ℕ → Image
+with_run bank i count bytes = take i bank ++ (blocks_of_bytes count bytes ++ drop (i + count) bank)
+
+-- so many blocks of a bank from block i on are those of an image from a place on
+abbrev pub HasRun : Image → ℕ → ℕ → ℕ → Image → Type 0
+HasRun image place i count bank = (k : ℕ) → k < count → slice_index_or bank (i + k) [] ≡ slice_index_or image (place + k) []
+
+-- so many numbers at the front of a list follow one another
+abbrev pub AreNeighbours : ℕ → List ℕ → Type 0
+AreNeighbours count numbers = (k : ℕ) → k < count → slice_index_or numbers k 0 ≡ slice_index_or numbers 0 0 + k

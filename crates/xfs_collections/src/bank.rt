@@ -1,6 +1,6 @@
 //! The bank: so many blocks of 4096 bytes, one behind the other.
 
-ghost use Rattle.std.specs.Prelude.{◌≡◌, ℕ, ◌+◌, ◌/◌, ◌≤◌, ◌<◌, List, [], ◌∷◌, ◌++◌, length, drop, replicate, Some, IfOk, OnOk, slice_get, slice_set, slice_index, slice_index_or, slice_range};
+ghost use Rattle.std.specs.Prelude.{◌≡◌, ℕ, ◌+◌, ◌*◌, ◌/◌, ◌^◌, ◌≤◌, ◌<◌, List, [], ◌∷◌, ◌++◌, length, take, drop, replicate, Some, IsTrue, IfOk, OnOk, slice_get, slice_set, slice_index, slice_index_or, slice_range};
 ghost use Rattle.std.specs.List.{All, concat};
 ghost use Rattle.std.specs.Fork.{AcceptsEach, ChangesEach};
 ghost use Rattle.xfs_disk.specs.Blocks.{Image, IsImage};
@@ -8,7 +8,7 @@ ghost use Rattle.xfs_disk.specs.Faults.{HasCause};
 ghost use Rattle.xfs_disk.specs.Reads.{OnlyReads};
 ghost use Rattle.std.specs.Option.{ForSome};
 ghost use Rattle.xfs_collections.specs.Scattered.{NamesEach};
-ghost use Rattle.xfs_collections.specs.Bank.{AreCuts, parts_of, overwritten, IsFilledBank};
+ghost use Rattle.xfs_collections.specs.Bank.{AreCuts, AreNeighbours, HasRun, parts_of, overwritten, with_run, IsFilledBank};
 
 use crate::order::reading_order;
 use crate::parts::change_parts;
@@ -134,7 +134,7 @@ impl BlockBank {
         }
     }
 
-    /// The same, in the order of the list.
+    /// The same, in the order of the list. Places that follow one another are read by one call.
     fn fill_in_turn<D: Disk>(&mut self, disk: &mut D, places: &[u64]) -> Result<(), Failed>
         requires room { length places.now ≤ length self.old }
         requires inside { All (λ place. place < D.size disk.old) places.now }
@@ -145,11 +145,14 @@ impl BlockBank {
         ensures disk { OnlyReads D.size D.holds D.write_faults D.writes D.tells_stops D.moment D.may_leave D.left_since disk.old disk.new }
         ensures reads { D.reads disk.new ≤ D.reads disk.old + length places.now }
     {
-        for (i, place) in places.iter().enumerate() {
-            match self.read_block(disk, *place, i) {
+        let mut i = 0;
+        while i < places.len() {
+            let count = run_length(&places[i..]);
+            match self.read_blocks(disk, places[i], i, count) {
                 Ok(()) => {}
                 Err(Failed) => return Err(Failed),
             }
+            i += count;
         }
         Ok(())
     }
@@ -199,6 +202,45 @@ impl BlockBank {
         self.read_block(disk, places[i], i)
     }
 
+    /// Reads blocks that follow one another, from `place` on, into block `i` and those behind it.
+    fn read_blocks<D: Disk>(
+        &mut self,
+        disk: &mut D,
+        place: u64,
+        i: usize,
+        count: usize,
+    ) -> Result<(), Failed>
+        requires inside { place + count ≤ D.size disk.old }
+        requires numbers { place + count ≤ 2 ^ 64 }
+        requires room { i + count ≤ length self.old }
+        requires some { 0 < count }
+        ensures held { OnOk result (ForSome (D.holds disk.old) (λ image. HasRun image place i count self.new)) }
+        ensures first { take i self.new ≡ take i self.old }
+        ensures rest { drop (i + count) self.new ≡ drop (i + count) self.old }
+        ensures len { length self.new ≡ length self.old }
+        ensures cause { HasCause (D.faults disk.old) (D.faults disk.new) result }
+        ensures disk { OnlyReads D.size D.holds D.write_faults D.writes D.tells_stops D.moment D.may_leave D.left_since disk.old disk.new }
+        ensures reads { D.reads disk.new ≤ D.reads disk.old + count }
+    {
+        match disk.read_run(place, self.view_run_mut(i, count)) {
+            Ok(()) => Ok(()),
+            Err(Failed) => Err(Failed),
+        }
+    }
+
+    /// The bytes of so many blocks from block `i` on, to be written.
+    fn view_run_mut(&mut self, i: usize, count: usize) -> &mut [u8]
+        requires inside { i + count ≤ length self.old }
+        requires some { 0 < count }
+        ensures* writes_back { sem 𝓛 (LendsBlock self.entry i result) }
+        ensures size { length result.now ≡ count * 4096 }
+        ensures set { (bytes : List ℕ) → length bytes ≡ count * 4096 → overwritten self.old i bytes ≡ with_run self.old i count bytes }
+    {
+        let bytes = &mut self.bytes;
+        let start = i * BLOCK_SIZE;
+        bytes.slice_mut(start..start + count * BLOCK_SIZE)
+    }
+
     /// Reads a block into block `i`.
     fn read_block<D: Disk>(&mut self, disk: &mut D, place: u64, i: usize) -> Result<(), Failed>
         requires inside { place < D.size disk.old }
@@ -223,4 +265,26 @@ fn blocks_in(bytes: &[u8]) -> usize
     ensures fit { All (λ b. b < 256) bytes.now }
 {
     bytes.len() / BLOCK_SIZE
+}
+
+/// How many places at the front follow one another.
+fn run_length(places: &[u64]) -> usize
+    requires some { 0 < length places.now }
+    ensures some { 0 < result }
+    ensures within { result ≤ length places.now }
+    ensures run { AreNeighbours result places.now }
+{
+    for n in 1..places.len() {
+        if !stands_behind(places[0], places[n], n) {
+            return n;
+        }
+    }
+    places.len()
+}
+
+/// Whether a place is `n` behind another.
+fn stands_behind(first: u64, place: u64, n: usize) -> bool
+    ensures { IsTrue result → place ≡ first + n }
+{
+    place >= first && place - first == n as u64
 }
