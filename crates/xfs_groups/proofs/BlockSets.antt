@@ -1,71 +1,75 @@
 -- Sets of blocks: what is added is there, and what lies in a range, in order.
-use Rattle.std.proofs.Common.{◌≡◌, ℕ, zero, suc, Bool, true, false, cond, ◌+◌, ◌≤◌, ◌<◌, inl, inr, ◌&&◌, ◌||◌, ◌==◌, nat_le, nat_lt, List, [], ◌∷◌, refl, sym, ap, ap₂, ◌∙◌, subst, arith}
-use Rattle.std.specs.Ordering.{nat_cmp}
+use Rattle.std.proofs.Common.{◌≡◌, ℕ, zero, suc, Bool, true, false, cond, ◌+◌, ◌≤◌, ◌<◌, inl, inr, ◌&&◌, ◌||◌, ◌==◌, nat_le, nat_lt, List, [], ◌∷◌, ◌++◌, Result, Ok, Err, refl, sym, ap, ap₂, ◌∙◌, subst, arith}
+use Rattle.std.specs.Prelude.{IfOk, OnOk}
+use Rattle.std.specs.Cmp.{unsigned_tied}
+use Rattle.std.specs.Ordering.{eq_by_cmp, nat_cmp}
 use Rattle.std.specs.declared.cmp.Ordering.TheVariants.{Less}
-use Rattle.std.specs.List.{AllByRecursion, filter, range_with_len}
+use Rattle.std.specs.List.{AllByRecursion, filter, list_any, range_with_len}
 use Rattle.std.specs.List.Sorted.{IsStrictlySortedBy}
-use Rattle.std.specs.BTreeSet.{insert_key}
-use Rattle.std.proofs.lemmas.Bool.{and_parts, cases_lt, cases_order, eq-eqb, leb-true, ltb-true, ne_eqb}
+use Rattle.std.proofs.lemmas.Bool.{and_parts, cases_lt, eq-eqb, leb-true, ltb-true, ne_eqb}
 use Rattle.std.proofs.lemmas.Bool.Decides.{nat_tests}
+use Rattle.std.proofs.lemmas.List.Folds.{list_any-append}
 use Rattle.std.proofs.lemmas.Map.Keys.{sorted_head, sorted_tail}
 use Rattle.xfs_disk.specs.Lists.{is_among}
 use Rattle.xfs_image.specs.Claims.{is_of_cluster}
+use Rattle.xfs_groups.specs.Sets.{Rising}
 
-or_last : (x y z : Bool) → (x || (y || z)) ≡ ((y || z) || x)
-or_last true true z = refl
-or_last true false true = refl
-or_last true false false = refl
-or_last false true z = refl
-or_last false false true = refl
-or_last false false false = refl
-
-or_moved : (x y z : Bool) → (x || (y || z)) ≡ ((x || y) || z)
+pub or_moved : (x y z : Bool) → (x || (y || z)) ≡ ((x || y) || z)
 or_moved true y z = refl
 or_moved false y z = refl
 
-or_same : (x y : Bool) → (x || y) ≡ ((x || y) || x)
-or_same true y = refl
-or_same false true = refl
-or_same false false = refl
+or_one : (x y : Bool) → (x || (y || false)) ≡ (x || y)
+or_one true y = refl
+or_one false true = refl
+or_one false false = refl
 
-or_none : (x : Bool) → (x || false) ≡ x
-or_none true = refl
-or_none false = refl
+-- a list has what it had, and the block that is added
+pub pushed : (n : ℕ) (xs ys : List ℕ) (q : ℕ) → ys ≡ xs ++ n ∷ [] → is_among ys q ≡ (is_among xs q || n == q)
+pushed n xs ys q is = ap (λ (zs : List ℕ). is_among zs q) is ∙ list_any-append (λ m. m == q) xs (n ∷ []) ∙ or_one (is_among xs q) (n == q)
 
--- a set has what it had, and the block that is added
-pub inserted : (n : ℕ) (xs : List ℕ) (q : ℕ) → is_among (insert_key nat_cmp xs n) q ≡ (is_among xs q || n == q)
-inserted n [] q = or_none (n == q)
-inserted n (m ∷ rest) q =
-    elim (cases_order n m) [
-      | inl same ↦ let e : nat_lt n m ≡ false = grind (arith, nat_tests) in
-          let f : (n == m) ≡ true = grind (arith, nat_tests) in
-          rw (e, f) (or_same (m == q) (is_among rest q) ∙ ap (λ (k : ℕ). (m == q || is_among rest q) || k == q) (sym same))
-      | inr other ↦ elim other [
-        | inl lt ↦ let e : nat_lt n m ≡ true = grind (arith, nat_tests) in rw e (or_last (n == q) (m == q) (is_among rest q))
-        | inr gt ↦ let e : nat_lt n m ≡ false = grind (arith, nat_tests) in
-            let f : (n == m) ≡ false = grind (arith, nat_tests) in
-            rw (e, f) (ap (λ (t : Bool). m == q || t) (inserted n rest q) ∙ or_moved (m == q) (is_among rest q) (n == q))
-      ]
-    ]
+-- a set that is made of a list has what the list has
+tied : (q : ℕ) (xs : List ℕ) → list_any (eq_by_cmp nat_cmp q) xs ≡ is_among xs q
+tied q [] = refl
+tied q (x ∷ xs) =
+    let turned : (q == x) ≡ (x == q) = grind (arith, nat_tests) in
+    ap₂ (λ (a b : Bool). a || b) (unsigned_tied q x ∙ turned) (tied q xs)
+
+pub collected : (xs keys : List ℕ) → ((q : ℕ) → list_any (eq_by_cmp nat_cmp q) keys ≡ list_any (eq_by_cmp nat_cmp q) xs) → (q : ℕ) → is_among keys q ≡ is_among xs q
+collected xs keys same q = sym (tied q keys) ∙ same q ∙ tied q xs
+
+-- what holds where there is enough memory leads to what does
+pub ok_then : {T E : Type 0} {P Q : Type 0} (result : Result T E) → (P → Q) → OnOk result P → OnOk result Q
+ok_then (Ok x) leads held = leads held
+ok_then (Err e) leads held = tt
+
+pub made_then : {T E : Type 0} {P Q : T → Type 0} (result : Result T E) → ((x : T) → P x → Q x) → IfOk result P → IfOk result Q
+made_then (Ok x) leads held = leads x held
+made_then (Err e) leads held = tt
+
+-- the blocks of two lists, the second of which may be the first
+pub one_twice : (old a b : Bool) → a ≡ b → (old || a) ≡ (old || (a || b))
+one_twice old a b same = ap (λ (t : Bool). old || t) (twice a ∙ ap (λ (t : Bool). a || t) same)
+  where
+    twice : (x : Bool) → x ≡ (x || x)
+    twice true = refl
+    twice false = refl
+
+pub both_added : (old first a b new : Bool) → first ≡ (old || a) → new ≡ (first || b) → new ≡ (old || (a || b))
+both_added old first a b new one two = two ∙ ap (λ (t : Bool). t || b) one ∙ sym (or_moved old a b)
 
 -- the four blocks of a cluster, one after the other
 pub four_blocks : (old : Bool) (c q : ℕ) → ((((old || c == q) || c + 1 == q) || c + 2 == q) || c + 3 == q) ≡ (old || is_of_cluster c q)
 four_blocks true c q = refl
 four_blocks false c q = grind (arith, nat_tests)
 
--- numbers ascend from one on
-abbrev pub Rising : ℕ → List ℕ → Type 0
-Rising low [] = Unit {0}
-Rising low (x ∷ xs) = (low ≤ x) × Rising (x + 1) xs
-
 abbrev lies : ℕ → ℕ → ℕ → Bool
 lies first count q = nat_le first q && nat_lt q (first + count)
 
-from_lower : (low high : ℕ) (xs : List ℕ) → low ≤ high → Rising high xs → Rising low xs
+pub from_lower : (low high : ℕ) (xs : List ℕ) → low ≤ high → Rising high xs → Rising low xs
 from_lower low high [] le up = tt
 from_lower low high (x ∷ xs) le up = (let first = up.0 in omega (arith, le, first), up.1)
 
-none_below : (q low : ℕ) (xs : List ℕ) → q < low → Rising low xs → is_among xs q ≡ false
+pub none_below : (q low : ℕ) (xs : List ℕ) → q < low → Rising low xs → is_among xs q ≡ false
 none_below q low [] lt up = refl
 none_below q low (x ∷ xs) lt up =
     let first : low ≤ x = up.0 in
@@ -101,7 +105,7 @@ filter_rising p (suc n) a (x ∷ xs) up low is =
           rw e (ap₂ (λ (y : ℕ) (ys : List ℕ). y ∷ ys) same rest)
     ]
 
-rising_filtered : (p : ℕ → Bool) (low : ℕ) (xs : List ℕ) → Rising low xs → Rising low (filter p xs)
+pub rising_filtered : (p : ℕ → Bool) (low : ℕ) (xs : List ℕ) → Rising low xs → Rising low (filter p xs)
 rising_filtered p low [] up = tt
 rising_filtered p low (x ∷ xs) up = by_case (p x) (rising_filtered p (x + 1) xs up.1)
   where

@@ -1,13 +1,14 @@
 -- One cluster more whose slots are read, or one block more on which nothing new is placed.
-use Rattle.std.proofs.Common.{◌≡◌, ℕ, zero, suc, Bool, true, false, ◌+◌, ◌*◌, ◌/◌, ◌%◌, ◌||◌, if◌then◌else◌, List, [], ◌∷◌, ◌++◌, append_assoc, refl, sym, ap, ap₂, ◌∙◌, subst, arith}
+use Rattle.std.proofs.Common.{◌≡◌, ℕ, zero, suc, Bool, true, false, ◌+◌, ◌*◌, ◌/◌, ◌%◌, ◌==◌, ◌&&◌, ◌||◌, if◌then◌else◌, List, [], ◌∷◌, ◌++◌, append_assoc, refl, sym, ap, ap₂, ◌∙◌, subst, arith}
 use Rattle.std.specs.List.{filter, range_with_len}
 use Rattle.std.proofs.lemmas.List.Elements.{filter-append, filter_agree}
 use Rattle.xfs_disk.specs.Lists.{is_among}
 use Rattle.xfs_disk.specs.Blocks.{Image}
 use Rattle.xfs_geom.specs.Volumes.{Volume}
 use Rattle.xfs_volume.specs.declared.clusters.ClusterRec.{ClusterRec}
+use Rattle.xfs_image.specs.Candidates.{lies_in_chunk}
 use Rattle.xfs_image.specs.Clusters.{root_cluster}
-use Rattle.xfs_groups.specs.Private.Chosen.{ClustersPlaced, chosen, chosen_rec, is_chosen, is_withheld, cluster_place, withheld}
+use Rattle.xfs_groups.specs.Private.Chosen.{ClustersPlaced, are_clear, chosen, chosen_rec, is_chosen, is_chosen_where, is_withheld, cluster_place, withheld}
 use Rattle.xfs_groups.proofs.Placed.{placed_more}
 use Rattle.xfs_groups.proofs.Rows.{filter_more, kept_more}
 
@@ -88,3 +89,10 @@ unfolding withheld
 held_withheld v image trusted held first count is =
     filter_agree (is_among held) (is_withheld v image true held) (λ b. or_nothing (is_among held b)) (range_with_len first count)
     ∙ ap (λ (t : Bool). filter (is_withheld v image t held) (range_with_len first count)) (sym is)
+
+-- nor do they choose a cluster there
+pub chosen_where : (v : Volume) (image : Image) (named : List ℕ) (cluster : ℕ) (is_named is : Bool) → is_named ≡ is_among named cluster
+    → is ≡ is_chosen_where v image is_named cluster → is ≡ is_chosen v image true named cluster
+chosen_where v image named cluster is_named is known chosen =
+    chosen
+    ∙ ap (λ (b : Bool). cluster == root_cluster v || (b && lies_in_chunk v cluster && are_clear v image cluster 4)) (known ∙ or_nothing (is_among named cluster))

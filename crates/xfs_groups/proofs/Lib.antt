@@ -1,5 +1,7 @@
 pub mod Causes
 pub mod BlockSets
+pub mod Along
+pub mod Naming
 pub mod Rows
 pub mod Sweeps
 pub mod Placed

@@ -10,22 +10,22 @@ pub of_root : (a b : ℕ) (rest : Bool) → a ≡ b → true ≡ ((a == b) || re
 of_root a b rest same = sym (ap (λ (x : Bool). x || rest) (eq-eqb a b same))
 
 -- those of a cluster that no tree names are not, nor those of one outside all chunks
-pub unnamed : (a b : ℕ) (named inside clear : Bool) → (a ≡ b → ⊥) → named ≡ false → false ≡ ((a == b) || ((named || false) && inside && clear))
+pub unnamed : (a b : ℕ) (named inside clear : Bool) → (a ≡ b → ⊥) → named ≡ false → false ≡ ((a == b) || (named && inside && clear))
 unnamed a b named inside clear other is =
-    sym (ap₂ (λ (x y : Bool). x || ((y || false) && inside && clear)) (ne_eqb a b other) is)
+    sym (ap₂ (λ (x y : Bool). x || (y && inside && clear)) (ne_eqb a b other) is)
 
-pub outside : (a b : ℕ) (named inside clear : Bool) → (a ≡ b → ⊥) → named ≡ true → inside ≡ false → false ≡ ((a == b) || ((named || false) && inside && clear))
+pub outside : (a b : ℕ) (named inside clear : Bool) → (a ≡ b → ⊥) → named ≡ true → inside ≡ false → false ≡ ((a == b) || (named && inside && clear))
 outside a b named inside clear other is out =
-    sym (ap₂ (λ (x y : Bool). x || ((y || false) && inside && clear)) (ne_eqb a b other) is ∙ ap (λ (z : Bool). z && clear) out)
+    sym (ap₂ (λ (x y : Bool). x || (y && inside && clear)) (ne_eqb a b other) is ∙ ap (λ (z : Bool). z && clear) out)
 
 -- those of any other are where its blocks are clear
-clear_then : (a b : ℕ) (named inside clear : Bool) → (a ≡ b → ⊥) → named ≡ true → inside ≡ true → clear ≡ ((a == b) || ((named || false) && inside && clear))
+clear_then : (a b : ℕ) (named inside clear : Bool) → (a ≡ b → ⊥) → named ≡ true → inside ≡ true → clear ≡ ((a == b) || (named && inside && clear))
 clear_then a b named inside clear other is in_chunk =
-    sym (ap₂ (λ (x y : Bool). x || ((y || false) && inside && clear)) (ne_eqb a b other) is ∙ ap (λ (z : Bool). z && clear) in_chunk)
+    sym (ap₂ (λ (x y : Bool). x || (y && inside && clear)) (ne_eqb a b other) is ∙ ap (λ (z : Bool). z && clear) in_chunk)
 
 pub where_clear : {E : Type 0} (answer : Result Bool E) (holds : Option Image) (clear : Image → Bool) (a b : ℕ) (named inside : Bool) → (a ≡ b → ⊥) → named ≡ true → inside ≡ true
     → IfOk answer (λ is. ForSome holds (λ image. is ≡ clear image))
-    → IfOk answer (λ is. ForSome holds (λ image. is ≡ ((a == b) || ((named || false) && inside && clear image))))
+    → IfOk answer (λ is. ForSome holds (λ image. is ≡ ((a == b) || (named && inside && clear image))))
 where_clear (Ok is) holds clear a b named inside other named_is inside_is answered = λ image told.
     answered image told ∙ clear_then a b named inside (clear image) other named_is inside_is
 where_clear (Err failed) holds clear a b named inside other named_is inside_is answered = tt

@@ -32,6 +32,11 @@ GiveAlike block xs ys = (b : ℕ) → block ≤ b → is_given_block ys b ≡ is
 abbrev pub is_named : Option (List ℕ) → Option (List ℕ) → ℕ → Bool
 is_named chunks owners cluster = names chunks cluster || names owners cluster
 
+-- the clusters that a tree names, none where it does not read
+abbrev pub named_in : Option (List ℕ) → List ℕ
+named_in None = []
+named_in (Some clusters) = clusters
+
 -- the records of a tree of owners are apart, where it reads
 abbrev pub AreOwnersApart : Option (Contents RmapRec) → Type 0
 AreOwnersApart None = Unit {0}

@@ -7,9 +7,9 @@ ghost use Rattle.xfs_geom.specs.Volumes.{volume_of};
 ghost use Rattle.xfs_kinds.specs.InodeTrees.{is_missing};
 ghost use Rattle.xfs_image.specs.Clusters.{same_clusters, both_name, chunk_clusters, clusters_in, given_clusters};
 ghost use Rattle.xfs_image.specs.Reserved.{is_of_named, is_of_tree};
-ghost use Rattle.xfs_groups.specs.Named.{AreOwnersApart, chunks_in, is_named, owners_in};
+ghost use Rattle.xfs_groups.specs.Named.{AreOwnersApart, chunks_in, is_named, named_in, owners_in};
 
-use crate::sets::BlockSet;
+use crate::sets::{BlockList, BlockSet};
 use crate::sweep::given_clusters;
 use crate::trees::TreeSeen;
 use std::alloc::Global;
@@ -145,14 +145,19 @@ impl Named {
     pub fn clusters(&self, alloc: Global) -> Result<BlockSet, NoMemory>
         ensures { IfOk result (λ set. (q : ℕ) → is_among set q ≡ is_named self.now.chunks self.now.owners q) }
     {
-        let mut set = BlockSet::new(alloc);
-        if let Some(chunks) = &self.chunks {
-            set.add_all(chunks.as_slice())?;
-        }
-        if let Some(owners) = &self.owners {
-            set.add_all(owners.as_slice())?;
-        }
-        Ok(set)
+        let mut list = BlockList::new(alloc);
+        list.add_both(named_in(&self.chunks), named_in(&self.owners))?;
+        list.into_set(alloc)
+    }
+}
+
+/// The clusters that a tree names, none where it does not read.
+fn named_in(named: &Option<Blocks>) -> &[u64]
+    ensures { result.now ≡ named_in named.now }
+{
+    match named {
+        None => &[],
+        Some(clusters) => clusters.as_slice(),
     }
 }
 
@@ -160,6 +165,9 @@ impl Named {
 fn same_clusters(alloc: Global, xs: &[u64], ys: &[u64]) -> Result<bool, NoMemory>
     ensures { IfOk result (λ same. same ≡ same_clusters xs.now ys.now) }
 {
+    if xs == ys {
+        return Ok(true);
+    }
     if !are_among(alloc, xs, ys)? {
         return Ok(false);
     }
@@ -170,8 +178,9 @@ fn same_clusters(alloc: Global, xs: &[u64], ys: &[u64]) -> Result<bool, NoMemory
 fn are_among(alloc: Global, xs: &[u64], ys: &[u64]) -> Result<bool, NoMemory>
     ensures { IfOk result (λ among. among ≡ list_all (is_among ys.now) xs.now) }
 {
-    let mut set = BlockSet::new(alloc);
-    set.add_all(ys)?;
+    let mut list = BlockList::new(alloc);
+    list.add_all(ys)?;
+    let set = list.into_set(alloc)?;
     for cluster in xs {
         if !set.has(*cluster) {
             return Ok(false);
@@ -192,31 +201,19 @@ pub(crate) fn held_by_trees(
     ensures { IfOk result (λ set. (q : ℕ) → is_among set q
         ≡ (is_of_tree ino.now q || is_of_tree rmap.now q || is_of_named named.now.chunks q || is_of_named named.now.owners q)) }
 {
-    let mut set = BlockSet::new(alloc);
-    add_tree(&mut set, ino)?;
-    add_tree(&mut set, rmap)?;
-    add_named(&mut set, &named.chunks)?;
-    add_named(&mut set, &named.owners)?;
-    Ok(set)
+    let mut list = BlockList::new(alloc);
+    add_tree(&mut list, ino)?;
+    add_tree(&mut list, rmap)?;
+    list.add_both_clusters(named_in(&named.chunks), named_in(&named.owners))?;
+    list.into_set(alloc)
 }
 
 /// Adds the blocks of a tree, where it reads.
-fn add_tree<R: Drop>(set: &mut BlockSet, tree: &Option<TreeSeen<R>>) -> Result<(), NoMemory>
-    ensures { OnOk result ((q : ℕ) → is_among set.new q ≡ (is_among set.old q || is_of_tree tree.now q)) }
+fn add_tree<R: Drop>(list: &mut BlockList, tree: &Option<TreeSeen<R>>) -> Result<(), NoMemory>
+    ensures { OnOk result ((q : ℕ) → is_among list.new q ≡ (is_among list.old q || is_of_tree tree.now q)) }
 {
     match tree {
         None => Ok(()),
-        Some(tree) => set.add_all(tree.blocks()),
-    }
-}
-
-/// Adds the blocks of clusters, where a tree names them.
-fn add_named(set: &mut BlockSet, named: &Option<Blocks>) -> Result<(), NoMemory>
-    requires { IfSome named.now (λ clusters. All (λ cluster. cluster < 2 ^ 32) clusters) }
-    ensures { OnOk result ((q : ℕ) → is_among set.new q ≡ (is_among set.old q || is_of_named named.now q)) }
-{
-    match named {
-        None => Ok(()),
-        Some(clusters) => set.add_clusters(clusters.as_slice()),
+        Some(tree) => list.add_all(tree.blocks()),
     }
 }

@@ -9,11 +9,11 @@ ghost use Rattle.xfs_image.specs.Candidates.{lies_in_chunk};
 ghost use Rattle.xfs_image.specs.Clusters.{root_cluster};
 ghost use Rattle.xfs_disk.specs.Reads.{OnlyReads};
 ghost use Rattle.xfs_groups.specs.Answers.{HasGroupsCause};
-ghost use Rattle.xfs_groups.specs.Private.Chosen.{ClustersPlaced, are_clear, chosen, chosen_rec, is_chosen, can_hold_cluster};
+ghost use Rattle.xfs_groups.specs.Private.Chosen.{ClustersPlaced, are_clear, can_hold_cluster, chosen, chosen_rec, is_chosen_where};
 
 use crate::faults::GroupsFault;
 use crate::looking::look_whole;
-use crate::sets::BlockSet;
+use crate::sets::{BlockSet, first_from, stands_at};
 use std::alloc::Global;
 use std::sync::ledger::Ledger;
 use xfs_collections::Steps;
@@ -40,10 +40,17 @@ pub(crate) fn recorded_clusters<D: Disk, L: Ledger>(
     ensures reads { D.reads disk.new + steps.old ≤ D.reads disk.old + steps.new }
 {
     let start = g.start_of_group(ag);
+    let Ok(places) = named.within(alloc, start, g.group_length(ag)) else {
+        return Err(GroupsFault::NoMemory);
+    };
+    let root = root_cluster(g);
     let mut clusters = Vec::new(alloc);
+    let mut next = 0;
     for i in 0..g.group_length(ag) / 4 {
         let cluster = start + 4 * i as u64;
-        let is_chosen = match is_chosen(g, disk, named, cluster, steps) {
+        next = first_from(&places, next, cluster);
+        let is_named = stands_at(&places, next, cluster);
+        let is_chosen = match is_chosen(g, disk, cluster, root, is_named, steps) {
             Ok(is_chosen) => is_chosen,
             Err(Failed) => return Err(GroupsFault::ReadFault),
         };
@@ -60,22 +67,24 @@ pub(crate) fn recorded_clusters<D: Disk, L: Ledger>(
 fn is_chosen<D: Disk, L: Ledger>(
     g: &Geometry,
     disk: &mut D,
-    named: &BlockSet,
     cluster: u64,
+    root: u64,
+    is_named: bool,
     steps: &mut Steps<L>,
 ) -> Result<bool, Failed>
+    requires root { root ≡ root_cluster (volume_of g.now) }
     requires cluster { cluster + 4 ≤ g.now.dblocks }
     requires inside { g.now.dblocks ≤ D.size disk.old }
-    ensures chosen { IfOk result (λ is. ForSome (D.holds disk.old) (λ image. is ≡ is_chosen (volume_of g.now) image true named.now cluster)) }
+    ensures chosen { IfOk result (λ is. ForSome (D.holds disk.old) (λ image. is ≡ is_chosen_where (volume_of g.now) image is_named cluster)) }
     ensures root { IfOk result (λ is. cluster ≡ root_cluster (volume_of g.now) → is ≡ true) }
     ensures cause { HasCause (D.faults disk.old) (D.faults disk.new) result }
     ensures disk { OnlyReads D.size D.holds D.write_faults D.writes D.tells_stops D.moment D.may_leave D.left_since disk.old disk.new }
     ensures reads { D.reads disk.new + steps.old ≤ D.reads disk.old + steps.new }
 {
-    if cluster == root_cluster(g) {
+    if cluster == root {
         return Ok(true);
     }
-    if !named.has(cluster) {
+    if !is_named {
         return Ok(false);
     }
     if !lies_in_chunk(g, cluster) {

@@ -39,6 +39,10 @@ abbrev pub is_chosen : Volume → Image → Bool → List ℕ → ℕ → Bool
 is_chosen v image trusted named cluster =
     is_chosen_as v named cluster (not trusted && are_used v image cluster 4) (are_clear v image cluster 4)
 
+-- the slots of a cluster of a group that is trusted are read, where it is known whether a tree names it
+abbrev pub is_chosen_where : Volume → Image → Bool → ℕ → Bool
+is_chosen_where v image named cluster = cluster == root_cluster v || (named && lies_in_chunk v cluster && are_clear v image cluster 4)
+
 -- the place of a group at an index
 abbrev pub cluster_place : Volume → ℕ → ℕ → ℕ
 cluster_place v ag i = head_block v ag + 4 * i

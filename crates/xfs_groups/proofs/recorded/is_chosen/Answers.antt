@@ -1,6 +1,5 @@
 use Rattle.std.proofs.Common.{◌≡◌, refl, sym, ◌∙◌, arith}
 use Rattle.xfs_disk.specs.Blocks.{Image}
-use Rattle.xfs_disk.specs.Lists.{is_among}
 use Rattle.xfs_disk.proofs.Reading.{reads_none}
 use Rattle.xfs_geom.specs.Volumes.{volume_of}
 use Rattle.xfs_image.specs.Candidates.{lies_in_chunk}
@@ -13,26 +12,26 @@ use Rattle.xfs_groups.proofs.recorded.is_chosen.Goals as goal
 pub are_clear-requires : goal.are_clear-requires
 are_clear-requires g c = record { blocks = c.requires.cluster; inside = c.requires.inside }
 
-pub returns-then-cluster-root_cluster : goal.returns-then-cluster-root_cluster
-returns-then-cluster-root_cluster g c =
+pub returns-then-cluster-root : goal.returns-then-cluster-root
+returns-then-cluster-root g c =
     let D = g.D.Disk in
     record {
-      chosen = λ image told. of_root c.args.cluster (root_cluster (volume_of c.args.g.now)) _ (c.if-cluster-root_cluster.true ∙ c.root_cluster.ensures);
+      chosen = λ image told. of_root c.args.cluster (root_cluster (volume_of c.args.g.now)) _ (c.if-cluster-root.true ∙ c.requires.root);
       root = λ root. refl;
       cause = no_later (D.faults c.args.disk.now);
       disk = reads_none D.size D.holds D.write_faults D.writes D.tells_stops D.moment D.may_leave D.left_since c.args.disk.now;
       reads = omega arith;
     }
 
-pub returns-then-not-has : goal.returns-then-not-has
-returns-then-not-has g c =
+pub returns-then-not-is_named : goal.returns-then-not-is_named
+returns-then-not-is_named g c =
     let D = g.D.Disk in
     let v = volume_of c.args.g.now in
-    let other : c.args.cluster ≡ root_cluster v → ⊥ = λ root. c.if-cluster-root_cluster.false (root ∙ sym c.root_cluster.ensures) in
+    let other : c.args.cluster ≡ root_cluster v → ⊥ = λ root. c.if-cluster-root.false (root ∙ sym c.requires.root) in
     record {
       chosen = λ image told.
-          unnamed c.args.cluster (root_cluster v) (is_among c.args.named.now c.args.cluster) (lies_in_chunk v c.args.cluster) (are_clear v image c.args.cluster 4) other
-          (sym c.has.ensures ∙ c.if-not-has.true);
+          unnamed c.args.cluster (root_cluster v) c.args.is_named (lies_in_chunk v c.args.cluster) (are_clear v image c.args.cluster 4) other
+          c.if-not-is_named.true;
       root = λ root. absurd (other root);
       cause = no_later (D.faults c.args.disk.now);
       disk = reads_none D.size D.holds D.write_faults D.writes D.tells_stops D.moment D.may_leave D.left_since c.args.disk.now;
@@ -43,11 +42,11 @@ pub returns-then-not-lies_in_chunk : goal.returns-then-not-lies_in_chunk
 returns-then-not-lies_in_chunk g c =
     let D = g.D.Disk in
     let v = volume_of c.args.g.now in
-    let other : c.args.cluster ≡ root_cluster v → ⊥ = λ root. c.if-cluster-root_cluster.false (root ∙ sym c.root_cluster.ensures) in
+    let other : c.args.cluster ≡ root_cluster v → ⊥ = λ root. c.if-cluster-root.false (root ∙ sym c.requires.root) in
     record {
       chosen = λ image told.
-          outside c.args.cluster (root_cluster v) (is_among c.args.named.now c.args.cluster) (lies_in_chunk v c.args.cluster) (are_clear v image c.args.cluster 4) other
-          (sym c.has.ensures ∙ c.if-not-has.false) (sym c.lies_in_chunk.ensures ∙ c.if-not-lies_in_chunk.true);
+          outside c.args.cluster (root_cluster v) c.args.is_named (lies_in_chunk v c.args.cluster) (are_clear v image c.args.cluster 4) other
+          c.if-not-is_named.false (sym c.lies_in_chunk.ensures ∙ c.if-not-lies_in_chunk.true);
       root = λ root. absurd (other root);
       cause = no_later (D.faults c.args.disk.now);
       disk = reads_none D.size D.holds D.write_faults D.writes D.tells_stops D.moment D.may_leave D.left_since c.args.disk.now;
@@ -57,10 +56,10 @@ returns-then-not-lies_in_chunk g c =
 pub returns : goal.returns
 returns g c =
     let v = volume_of c.args.g.now in
-    let other : c.args.cluster ≡ root_cluster v → ⊥ = λ root. c.if-cluster-root_cluster.false (root ∙ sym c.root_cluster.ensures) in
+    let other : c.args.cluster ≡ root_cluster v → ⊥ = λ root. c.if-cluster-root.false (root ∙ sym c.requires.root) in
     record {
       chosen = where_clear c.are_clear.result (g.D.Disk.holds c.args.disk.now) (λ (image : Image). are_clear v image c.args.cluster 4) c.args.cluster (root_cluster v)
-          (is_among c.args.named.now c.args.cluster) (lies_in_chunk v c.args.cluster) other (sym c.has.ensures ∙ c.if-not-has.false)
+          c.args.is_named (lies_in_chunk v c.args.cluster) other c.if-not-is_named.false
           (sym c.lies_in_chunk.ensures ∙ c.if-not-lies_in_chunk.false) c.are_clear.ensures.clear;
       root = no_root c.are_clear.result c.args.cluster (root_cluster v) other;
       cause = c.are_clear.ensures.cause;
