@@ -1,3 +1,4 @@
 pub mod Extents
 pub mod Laws
 pub mod Names
+pub mod Rest

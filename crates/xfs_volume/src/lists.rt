@@ -1,8 +1,7 @@
 //! Lists of records.
 
-ghost use Rattle.std.specs.Prelude.{◌≡◌, ℕ, List, [], IfOk};
+ghost use Rattle.std.specs.Prelude.{◌≡◌};
 
-use std::alloc::{AllocError, Global};
 use std::marker::Model;
 
 /// A list of records, which contracts see as the list of its items. Nothing here takes memory.
@@ -45,49 +44,3 @@ impl<T: Drop> Records<T> {
 
 /// A list of block numbers.
 pub type Blocks = Records<u64>;
-
-/// A list that is mostly empty, which contracts see as the list of its items. While it is, it takes 16 bytes and no memory of its own.
-#[derive(Debug, Drop)]
-pub struct Few<T: Drop> {
-    items: Option<Box<Vec<T>>>,
-}
-
-impl<T: Drop> Model for Few<T> {
-    ghost use Rattle.std.specs.Prelude.{List, []};
-    ghost use Rattle.std.specs.Option.{option_map_or};
-
-    ghost Value = { List T };
-
-    ghost view = { λ few. option_map_or (λ held. held.value.items) few.items [] };
-}
-
-impl<T: Drop> Few<T> {
-    /// No records.
-    pub fn new() -> Few<T>
-        ensures { result ≡ [] }
-    {
-        Few { items: None }
-    }
-
-    /// The list of these records.
-    pub fn from_vec(alloc: Global, items: Vec<T>) -> Result<Few<T>, AllocError>
-        ensures { IfOk result (λ few. few ≡ items.items) }
-    {
-        if items.is_empty() {
-            return Ok(Few { items: None });
-        }
-        Ok(Few {
-            items: Some(Box::new(alloc, items)?),
-        })
-    }
-
-    /// The records of the list.
-    pub fn as_slice(&self) -> &[T]
-        ensures { result.now ≡ self.now }
-    {
-        match &self.items {
-            Some(items) => items.as_slice(),
-            None => &[],
-        }
-    }
-}
