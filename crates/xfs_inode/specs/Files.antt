@@ -217,11 +217,13 @@ file_record ino core slot link held fork = record {
   ino = ino;
   core = core;
   extents = held.records;
-  attr_extents = fork.extents;
-  tree = held.blocks;
-  attrs = fork.attrs;
-  target = link_target core slot link;
-  device = device_of core slot;
+  rest = record {
+    attr_extents = fork.extents;
+    tree = held.blocks;
+    attrs = fork.attrs;
+    target = link_target core slot link;
+    device = device_of core slot;
+  };
 }
 
 -- the blocks are those that the core states

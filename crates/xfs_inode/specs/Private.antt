@@ -2,4 +2,3 @@
 pub mod Claims
 pub mod Steps
 pub mod Parts
-pub mod Records

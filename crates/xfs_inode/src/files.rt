@@ -22,7 +22,7 @@ pub enum FileRead {
     Unsound,
 }
 
-/// A file that stands apart, so that it need not move with what is said of it: it has some 300 bytes. Contracts see the file.
+/// A file that stands apart, so that it need not move with what is said of it: it has some 220 bytes. Contracts see the file.
 #[derive(Debug, Drop)]
 pub struct BoxedFile {
     file: Box<FileRec>,
