@@ -32,9 +32,9 @@ keeps_on v a b c ino first second =
       reads = first.reads;
       reads_still = second.reads_still;
       bytes = second.bytes ∙ ap (file_bytes v b) same ∙ first.bytes;
-      attrs = second.attrs ∙ ap (λ (f : FileRec). f.attrs) same ∙ first.attrs;
-      target = second.target ∙ ap (λ (f : FileRec). f.target) same ∙ first.target;
-      device = second.device ∙ ap (λ (f : FileRec). f.device) same ∙ first.device;
+      attrs = second.attrs ∙ ap (λ (f : FileRec). f.rest.attrs) same ∙ first.attrs;
+      target = second.target ∙ ap (λ (f : FileRec). f.rest.target) same ∙ first.target;
+      device = second.device ∙ ap (λ (f : FileRec). f.rest.device) same ∙ first.device;
       core = second.core ∙ ap (λ (f : FileRec). lasting f.core) same ∙ first.core;
     }
 

@@ -37,7 +37,7 @@ unfoldable pub inode_count : Volume → Image → ℕ
 inode_count v image = 32 * length (candidates v image)
 
 unfoldable pub total_extents : Volume → Image → ℕ
-total_extents v image = sum_by (λ (f : FileRec). length f.extents + length f.attr_extents) (candidate_files v image)
+total_extents v image = sum_by (λ (f : FileRec). length f.extents + length f.rest.attr_extents) (candidate_files v image)
 
 unfoldable pub entry_count : Volume → Image → ℕ
 entry_count v image = length (entries_read v image (candidate_files v image))

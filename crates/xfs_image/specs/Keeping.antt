@@ -62,7 +62,7 @@ pub record Keeps (v : Volume) (before after : Image) (ino : ℕ) : Type 0 where
   pub reads : reads_as v before ino ≡ Reads.File file
   pub reads_still : reads_as v after ino ≡ Reads.File kept
   pub bytes : file_bytes v after kept ≡ file_bytes v before file
-  pub attrs : kept.attrs ≡ file.attrs
-  pub target : kept.target ≡ file.target
-  pub device : kept.device ≡ file.device
+  pub attrs : kept.rest.attrs ≡ file.rest.attrs
+  pub target : kept.rest.target ≡ file.rest.target
+  pub device : kept.rest.device ≡ file.rest.device
   pub core : lasting kept.core ≡ lasting file.core

@@ -63,7 +63,7 @@ data_places v f =
 
 -- those of a file: of its data fork, of the blocks of its extent tree, of its attributes
 abbrev pub file_places : Volume → FileRec → List LsnPlace
-file_places v f = data_places v f ++ map (at 32) f.tree ++ flat_map (extent_places v (λ offset. 24)) f.attr_extents
+file_places v f = data_places v f ++ map (at 32) f.rest.tree ++ flat_map (extent_places v (λ offset. 24)) f.rest.attr_extents
 
 -- all places: of the primary superblock, the groups, the slots of recorded chunks, the files; backups have none
 abbrev pub lsn_places : Volume → List GroupRec → List FileRec → List LsnPlace
