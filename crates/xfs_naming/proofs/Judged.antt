@@ -196,7 +196,7 @@ module _ (root : ℕ) (files : List FileRec) (entries : List EntryRec) (dirs : L
       (λ x h. at x (sym (in_with (root + 1) (with_number (root + 2) (numbers_of files)) x ∙ ap (λ (t : Bool). x == root + 1 || t) (in_with (root + 2) (numbers_of files) x ∙ ap (λ (t : Bool). x == root + 2 || t) (in_numbers files x))) ∙ h))
     where
       empty_is : (f : FileRec) (x : ℕ) → IsSystemFile x f → is_empty_regular f ≡ true
-      empty_is f x file = and_from _ (length f.tree == 0) (and_from _ (length f.extents == 0) (and_from (type_of f == 8) (f.core.size == 0) (eq-eqb (type_of f) 8 file.regular) (eq-eqb f.core.size 0 file.no_bytes)) (eq-eqb (length f.extents) 0 file.no_data)) (eq-eqb (length f.tree) 0 file.no_tree)
+      empty_is f x file = and_from _ (length f.rest.tree == 0) (and_from _ (length f.extents == 0) (and_from (type_of f == 8) (f.core.size == 0) (eq-eqb (type_of f) 8 file.regular) (eq-eqb f.core.size 0 file.no_bytes)) (eq-eqb (length f.extents) 0 file.no_data)) (eq-eqb (length f.rest.tree) 0 file.no_tree)
 
       at_system : (x : ℕ) → is_system root x ≡ true → Any (IsSystemFile x) files → (links_at root files entries (file_at files x) x).held ≡ (links_at root files entries (file_at files x) x).due
       at_system x system (k, f, low, is, file) =

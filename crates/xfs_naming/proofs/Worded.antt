@@ -228,12 +228,12 @@ module _ (root : ℕ) (files : List FileRec) (entries : List EntryRec) (dirs : L
       on true false is e l = absurd (omega arith)
       on false r is e l = cc
 
-  empty_type : (f : FileRec) → is_empty_regular f ≡ true → (type_of f ≡ 8) × (f.core.size ≡ 0) × (length f.extents ≡ 0) × (length f.tree ≡ 0)
+  empty_type : (f : FileRec) → is_empty_regular f ≡ true → (type_of f ≡ 8) × (f.core.size ≡ 0) × (length f.extents ≡ 0) × (length f.rest.tree ≡ 0)
   empty_type f e =
-      let first = and_parts (type_of f == 8 && f.core.size == 0 && length f.extents == 0) (length f.tree == 0) e in
+      let first = and_parts (type_of f == 8 && f.core.size == 0 && length f.extents == 0) (length f.rest.tree == 0) e in
       let second = and_parts (type_of f == 8 && f.core.size == 0) (length f.extents == 0) first.0 in
       let third = and_parts (type_of f == 8) (f.core.size == 0) second.0 in
-      (eqb-true (type_of f) 8 third.0, eqb-true f.core.size 0 third.1, eqb-true (length f.extents) 0 second.1, eqb-true (length f.tree) 0 first.1)
+      (eqb-true (type_of f) 8 third.0, eqb-true f.core.size 0 third.1, eqb-true (length f.extents) 0 second.1, eqb-true (length f.rest.tree) 0 first.1)
 
   system_file : first_broken (link_laws root files entries) ≡ None → (x : ℕ) → is_system root x ≡ true → Any (IsSystemFile x) files
   system_file none x system = on (file_at files x) refl (linked none x (system_there (x == root + 1) (x == root + 2) (is_in_use files x) system))

@@ -30,7 +30,7 @@ pub record IsSystemFile (ino : ℕ) (f : FileRec) : Type 0 where
   pub regular : type_of f ≡ 8
   pub no_bytes : f.core.size ≡ 0
   pub no_data : length f.extents ≡ 0
-  pub no_tree : length f.tree ≡ 0
+  pub no_tree : length f.rest.tree ≡ 0
   pub one_link : f.core.nlink ≡ 1
 
 -- each directory is whole, and its entries name files in use by their types, with names that can be and that differ

@@ -119,7 +119,7 @@ links_of files entries f =
 
 -- a file of the system's own is regular and empty: no bytes, no data, no tree of extents
 abbrev pub is_empty_regular : FileRec → Bool
-is_empty_regular f = type_of f == 8 && f.core.size == 0 && length f.extents == 0 && length f.tree == 0
+is_empty_regular f = type_of f == 8 && f.core.size == 0 && length f.extents == 0 && length f.rest.tree == 0
 
 -- the links that a number is found with, and those that it should have
 abbrev pub links_at : ℕ → List FileRec → List EntryRec → Option FileRec → ℕ → Law

@@ -54,7 +54,7 @@ fn is_empty_regular(file: &FileRec) -> bool
     type_of(file) == REGULAR
         && file.core.size == 0
         && file.extents.as_slice().is_empty()
-        && file.tree.as_slice().is_empty()
+        && file.rest.tree().is_empty()
 }
 
 /// What the ninth law says of a number of the system's own.
