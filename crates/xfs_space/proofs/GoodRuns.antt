@@ -199,11 +199,11 @@ good_extents v ino flag es covered last small few none all =
 good_file : (v : Volume) (f : FileRec) → v.dblocks ≤ v.agcount * v.agblocks → (v.agcount - 1) * v.agblocks + 64 ≤ v.dblocks → f.ino < 2 ^ 64 → HasLawfulForks v f → All (IsGood v) (file_runs v f)
 good_file v f covered last small lawful =
     let extents = map (extent_run v f.ino 0) f.extents in
-    let attributes = map (extent_run v f.ino attribute_flag) f.attr_extents in
-    All-append (IsGood v) (extents ++ attributes) (runs_of_blocks f.ino tree_flag f.tree)
+    let attributes = map (extent_run v f.ino attribute_flag) f.rest.attr_extents in
+    All-append (IsGood v) (extents ++ attributes) (runs_of_blocks f.ino tree_flag f.rest.tree)
     (All-append (IsGood v) extents attributes (good_extents v f.ino 0 f.extents covered last small (omega arith) (omega arith) (placed v f.ino f.extents lawful.extents))
-    (good_extents v f.ino attribute_flag f.attr_extents covered last small (omega arith) (omega arith) (placed v f.ino f.attr_extents lawful.attr_extents)))
-    (good_blocks v f.ino tree_flag f.tree lawful.tree small (omega arith) (omega arith))
+    (good_extents v f.ino attribute_flag f.rest.attr_extents covered last small (omega arith) (omega arith) (placed v f.ino f.rest.attr_extents lawful.attr_extents)))
+    (good_blocks v f.ino tree_flag f.rest.tree lawful.tree small (omega arith) (omega arith))
 
 good_files : (v : Volume) (fs : List FileRec) → v.dblocks ≤ v.agcount * v.agblocks → (v.agcount - 1) * v.agblocks + 64 ≤ v.dblocks → All (λ (f : FileRec). f.ino < 2 ^ 64) fs → All (HasLawfulForks v) fs
     → All (IsGood v) (flat_map (file_runs v) fs)

@@ -84,7 +84,7 @@ extent_run v ino flag e = new_run (block_of_address v.agblocks v.agblklog e.star
 -- what a file owns: its data, its attributes, the blocks of its tree of extents
 abbrev pub file_runs : Volume → FileRec → List Run
 file_runs v f =
-    map (extent_run v f.ino 0) f.extents ++ map (extent_run v f.ino attribute_flag) f.attr_extents ++ runs_of_blocks f.ino tree_flag f.tree
+    map (extent_run v f.ino 0) f.extents ++ map (extent_run v f.ino attribute_flag) f.rest.attr_extents ++ runs_of_blocks f.ino tree_flag f.rest.tree
 
 -- all owned runs of a volume with these groups and files, in no order
 unfoldable pub owned_runs : Volume → List GroupRec → List FileRec → List Run

@@ -34,5 +34,5 @@ AreGroups v ag (g ∷ gs) = IsLawfulGroup v ag g × AreGroups v (ag + 1) gs
 
 pub record HasLawfulForks (v : Volume) (f : FileRec) : Type 0 where
   pub extents : IsTrue (are_lawful (bmbt_shape f.ino) v None f.extents)
-  pub attr_extents : IsTrue (are_lawful (bmbt_shape f.ino) v None f.attr_extents)
-  pub tree : All (λ block. block < v.dblocks) f.tree
+  pub attr_extents : IsTrue (are_lawful (bmbt_shape f.ino) v None f.rest.attr_extents)
+  pub tree : All (λ block. block < v.dblocks) f.rest.tree

@@ -34,8 +34,8 @@ fn push_file(runs: &mut Vec<Run>, g: &Geometry, file: &FileRec) -> Result<(), No
     ensures small { OnOk result (file.now.ino < 2 ^ 64) }
 {
     push_extents(runs, g, file.ino, 0, file.extents.as_slice())?;
-    push_extents(runs, g, file.ino, ATTRIBUTE, file.attr_extents.as_slice())?;
-    push_blocks(runs, file.ino, TREE_BLOCK, file.tree.as_slice())
+    push_extents(runs, g, file.ino, ATTRIBUTE, file.rest.attr_extents())?;
+    push_blocks(runs, file.ino, TREE_BLOCK, file.rest.tree())
 }
 
 /// Adds the blocks of the extents of a fork, with the fork's flag.
