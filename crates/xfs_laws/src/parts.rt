@@ -125,10 +125,10 @@ fn is_file(g: &Geometry, file: &FileRec) -> bool
     if !are_lawful(&kind, g, file.extents.as_slice()) {
         return false;
     }
-    if !are_lawful(&kind, g, file.attr_extents.as_slice()) {
+    if !are_lawful(&kind, g, file.rest.attr_extents()) {
         return false;
     }
-    are_of_volume(g, file.tree.as_slice())
+    are_of_volume(g, file.rest.tree())
 }
 
 /// Whether some blocks lie in the volume.

@@ -13,7 +13,7 @@ returns-then-not-are_lawful c =
 
 pub returns-then-not-are_lawful-2 : goal.returns-then-not-are_lawful-2
 returns-then-not-are_lawful-2 c =
-    fails (c.are_lawful-2.ensures ∙ ap (are_lawful (bmbt_shape c.args.file.now.ino) (volume_of c.args.g.now) None) c.as_slice-2.ensures)
+    fails (c.are_lawful-2.ensures ∙ ap (are_lawful (bmbt_shape c.args.file.now.ino) (volume_of c.args.g.now) None) c.attr_extents.ensures)
     c.if-not-are_lawful-2.true (λ w. w.attr_extents)
 
 pub returns : goal.returns
@@ -24,7 +24,7 @@ returns c =
     last c.are_of_volume.ensures
     (λ blocks. record {
       extents = sym (c.are_lawful.ensures ∙ ap (are_lawful s v None) c.as_slice.ensures) ∙ c.if-not-are_lawful.false;
-      attr_extents = sym (c.are_lawful-2.ensures ∙ ap (are_lawful s v None) c.as_slice-2.ensures) ∙ c.if-not-are_lawful-2.false;
-      tree = subst P c.as_slice-3.ensures blocks;
+      attr_extents = sym (c.are_lawful-2.ensures ∙ ap (are_lawful s v None) c.attr_extents.ensures) ∙ c.if-not-are_lawful-2.false;
+      tree = subst P c.tree.ensures blocks;
     })
-    (λ w. subst P (sym c.as_slice-3.ensures) w.tree)
+    (λ w. subst P (sym c.tree.ensures) w.tree)
