@@ -43,8 +43,8 @@ fn push_file(g: &Geometry, file: &FileRec, places: &mut Vec<LsnPosition>) -> Res
     ensures inside { All IsInBlock places.new.items }
 {
     push_data(g, file, places)?;
-    push_each(file.tree.as_slice(), TREE_LSN, places)?;
-    push_fork(g, Owner::Attributes, file.attr_extents.as_slice(), places)?;
+    push_each(file.rest.tree(), TREE_LSN, places)?;
+    push_fork(g, Owner::Attributes, file.rest.attr_extents(), places)?;
     Ok(())
 }
 
