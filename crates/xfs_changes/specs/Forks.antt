@@ -19,7 +19,7 @@ run_bytes v r = packed (extent_of_run v r)
 
 -- the blocks of the attributes of a file, and of the file with a number; none where there is none
 abbrev pub attribute_blocks : FileRec → ℕ
-attribute_blocks f = sum_by (λ (e : Extent). e.count) f.attr_extents
+attribute_blocks f = sum_by (λ (e : Extent). e.count) f.rest.attr_extents
 
 abbrev pub first_attribute_blocks : List FileRec → ℕ
 first_attribute_blocks [] = 0

@@ -12,7 +12,7 @@ abbrev pub numbers_of_extent : Volume → Extent → List ℕ
 numbers_of_extent v e = range_with_len (block_of_address v.agblocks v.agblklog e.start) e.count
 
 abbrev pub blocks_of_data : Volume → FileRec → List ℕ
-blocks_of_data v f = flat_map (numbers_of_extent v) f.extents ++ f.tree
+blocks_of_data v f = flat_map (numbers_of_extent v) f.extents ++ f.rest.tree
 
 abbrev pub blocks_replaced : Volume → List ℕ → FileRec → List ℕ
 blocks_replaced v rebuilt f = if is_among rebuilt f.ino then blocks_of_data v f else []

@@ -162,7 +162,7 @@ fn attribute_blocks_at(files: &[FileRec], ino: u64) -> Result<u64, NoMemory>
     ensures { IfOk result (λ blocks. blocks ≡ attribute_blocks_at files.now ino) }
 {
     match records_by_number(files, ino).first() {
-        Some(file) => attribute_blocks(file.attr_extents.as_slice()),
+        Some(file) => attribute_blocks(file.rest.attr_extents()),
         None => Ok(0),
     }
 }

@@ -45,7 +45,7 @@ fn push_of_file(
         return Ok(());
     }
     push_extents(g, file.extents.as_slice(), blocks)?;
-    blocks.extend_from_slice(file.tree.as_slice())?;
+    blocks.extend_from_slice(file.rest.tree())?;
     Ok(())
 }
 
