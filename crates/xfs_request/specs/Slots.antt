@@ -55,7 +55,7 @@ nlink_wanted f due = if f.core.nlink == due && f.core.next_unlinked == 2 ^ 32 - 
 
 -- the blocks that a file has without its attributes, which are dropped where they do not read
 abbrev pub own_blocks : FileRec → ℕ
-own_blocks f = sum_by (λ (e : Extent). e.count) f.extents + length f.tree
+own_blocks f = sum_by (λ (e : Extent). e.count) f.extents + length f.rest.tree
 
 abbrev pub attrs_wanted : FileRec → SlotState → Option ℕ
 attrs_wanted f state = if is_bare state then Some (own_blocks f) else None

@@ -175,7 +175,7 @@ fn attrs_wanted(file: &FileRec, state: SlotState) -> Result<Option<u64>, NoMemor
 fn own_blocks(file: &FileRec) -> u128
     ensures { result ≡ own_blocks file.now }
 {
-    extent_blocks(file.extents.as_slice()) + file.tree.as_slice().len() as u128
+    extent_blocks(file.extents.as_slice()) + file.rest.tree().len() as u128
 }
 
 /// The blocks of some extents.
