@@ -47,14 +47,14 @@ or_turned false false false = refl
 pub same_claims : (v : Volume) (f : FileRec) (block : ℕ) → claims v f block ≡ list_any (covers block) (file_runs v f)
 same_claims v f block =
     let of_data : List Run = map (extent_run v f.ino 0) f.extents in
-    let of_attr : List Run = map (extent_run v f.ino attribute_flag) f.attr_extents in
-    let of_tree : List Run = runs_of_blocks f.ino tree_flag f.tree in
+    let of_attr : List Run = map (extent_run v f.ino attribute_flag) f.rest.attr_extents in
+    let of_tree : List Run = runs_of_blocks f.ino tree_flag f.rest.tree in
     let a : list_any (lies_in block) (map (range_of v) f.extents) ≡ list_any (covers block) of_data = extents_are v f.ino 0 f.extents block in
-    let b : list_any (lies_in block) (map (range_of v) f.attr_extents) ≡ list_any (covers block) of_attr = extents_are v f.ino attribute_flag f.attr_extents block in
-    let c : list_any (lies_in block) (map range_of_block f.tree) ≡ list_any (covers block) of_tree = blocks_are f.ino tree_flag f.tree block in
+    let b : list_any (lies_in block) (map (range_of v) f.rest.attr_extents) ≡ list_any (covers block) of_attr = extents_are v f.ino attribute_flag f.rest.attr_extents block in
+    let c : list_any (lies_in block) (map range_of_block f.rest.tree) ≡ list_any (covers block) of_tree = blocks_are f.ino tree_flag f.rest.tree block in
     let left : claims v f block ≡ ((list_any (covers block) of_data || list_any (covers block) of_tree) || list_any (covers block) of_attr) =
-    list_any-append (lies_in block) (map (range_of v) f.extents ++ map range_of_block f.tree) (map (range_of v) f.attr_extents)
-    ∙ ap₂ (λ (s t : Bool). s || t) (list_any-append (lies_in block) (map (range_of v) f.extents) (map range_of_block f.tree) ∙ ap₂ (λ (s t : Bool). s || t) a c) b in
+    list_any-append (lies_in block) (map (range_of v) f.extents ++ map range_of_block f.rest.tree) (map (range_of v) f.rest.attr_extents)
+    ∙ ap₂ (λ (s t : Bool). s || t) (list_any-append (lies_in block) (map (range_of v) f.extents) (map range_of_block f.rest.tree) ∙ ap₂ (λ (s t : Bool). s || t) a c) b in
     let right : list_any (covers block) (file_runs v f) ≡ ((list_any (covers block) of_data || list_any (covers block) of_attr) || list_any (covers block) of_tree) =
     list_any-append (covers block) (of_data ++ of_attr) of_tree ∙ ap (λ (t : Bool). t || list_any (covers block) of_tree) (list_any-append (covers block) of_data of_attr) in
     left ∙ or_turned (list_any (covers block) of_data) (list_any (covers block) of_tree) (list_any (covers block) of_attr) ∙ sym right

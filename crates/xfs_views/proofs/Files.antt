@@ -122,7 +122,7 @@ fork_has v ino core slot attr_leaf =
 -- the extents of a file's attributes are those of a volume, whatever its slot reads as
 abbrev HasAttr : Volume → FileRead → Type 0
 HasAttr v Reads.Free = Unit {0}
-HasAttr v (Reads.File file) = are_extents v None file.attr_extents ≡ true
+HasAttr v (Reads.File file) = are_extents v None file.rest.attr_extents ≡ true
 HasAttr v (Reads.FileWithoutAttrs file) = Unit {0}
 HasAttr v (Reads.Unsupported what) = Unit {0}
 HasAttr v Reads.Unsound = Unit {0}
@@ -186,7 +186,7 @@ pub file_sound : (v : Volume) (image : Image) (ino : ℕ) (file : FileRec) → r
 unfolding reads_as
 file_sound v image ino file reads = subst (IsSound v ino) reads (always_sound v ino (slot_bytes v image ino) _ _ _)
 
-file_attr : (v : Volume) (image : Image) (ino : ℕ) (file : FileRec) → reads_as v image ino ≡ Reads.File file → are_extents v None file.attr_extents ≡ true
+file_attr : (v : Volume) (image : Image) (ino : ℕ) (file : FileRec) → reads_as v image ino ≡ Reads.File file → are_extents v None file.rest.attr_extents ≡ true
 unfolding reads_as
 file_attr v image ino file reads = subst (HasAttr v) reads (always_attr v ino (slot_bytes v image ino) _ _ _)
 
@@ -194,8 +194,8 @@ pub file_is : (v : Volume) (image : Image) (ino : ℕ) (file : FileRec) → read
 file_is v image ino file reads =
     let whole = file_sound v image ino file reads in record {
       extents = as_lawful v file.ino None file.extents whole.keeps.extents;
-      attr_extents = as_lawful v file.ino None file.attr_extents (file_attr v image ino file reads);
-      tree = as_blocks v file.tree whole.keeps.tree;
+      attr_extents = as_lawful v file.ino None file.rest.attr_extents (file_attr v image ino file reads);
+      tree = as_blocks v file.rest.tree whole.keeps.tree;
     }
 
 pub files_are : (v : Volume) (image : Image) (inos : List ℕ) (files : List FileRec) → AreFilesRead v image inos files → All (HasLawfulForks v) files

@@ -201,7 +201,7 @@ slot_claimed v image ino slot file reads block named =
     (elim (member_either block under (leaf ++ target) named) [
       | inl in_tree ↦ tree_claimed v whole block (tree_has v image ino slot core (named_top v ino slot) (top_is v ino slot core is.in_use) is.held is.data_reads block in_tree)
       | inr beside ↦ elim (member_either block leaf target beside) [
-        | inl in_leaf ↦ extent_claimed v whole whole.attr_extents block (attr_claimed v whole)
+        | inl in_leaf ↦ extent_claimed v whole whole.rest.attr_extents block (attr_claimed v whole)
             (attr_has v image ino slot core (named_attr v ino slot) (attr_is v ino slot core is.in_use) (option_map (bytes_of_block image) (named_attr v ino slot)) is.fork is.attrs_read block in_leaf)
         | inr in_target ↦ extent_claimed v whole whole.extents block (data_claimed v whole)
             (link_has v image ino slot core (named_link v ino slot) (link_is v ino slot core is.in_use) (tree_under v image ino (named_top v ino slot)) is.held is.data_reads block in_target)

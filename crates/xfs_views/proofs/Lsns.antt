@@ -177,9 +177,9 @@ data_in g f is =
 file_in : (g : Geometry) (f : FileRec) → HasLawfulForks (volume_of g) f → All (IsIn (volume_of g)) (file_places (volume_of g) f)
 file_in g f is =
     let v : Volume = volume_of g in
-    All-append (IsIn v) (data_places v f ++ map (at 32) f.tree) (flat_map (extent_places v (λ offset. 24)) f.attr_extents)
-    (All-append (IsIn v) (data_places v f) (map (at 32) f.tree) (data_in g f is) (blocks_in v 32 f.tree is.tree))
-    (extents_in g f.ino (λ offset. 24) f.attr_extents is.attr_extents)
+    All-append (IsIn v) (data_places v f ++ map (at 32) f.rest.tree) (flat_map (extent_places v (λ offset. 24)) f.rest.attr_extents)
+    (All-append (IsIn v) (data_places v f) (map (at 32) f.rest.tree) (data_in g f is) (blocks_in v 32 f.rest.tree is.tree))
+    (extents_in g f.ino (λ offset. 24) f.rest.attr_extents is.attr_extents)
 
 places_in : (g : Geometry) (groups : List GroupRec) (files : List FileRec) → length groups ≡ g.agcount → AreGroups (volume_of g) 0 groups → All (HasLawfulForks (volume_of g)) files
     → All (IsIn (volume_of g)) (lsn_places (volume_of g) groups files)

@@ -20,18 +20,18 @@ run_claimed v f r block is low high =
 pub data_claimed : (v : Volume) (f : FileRec) (e : Extent) (i : ℕ) → Member e f.extents → i < e.count → claims v f (block_of_address v.agblocks v.agblklog e.start + i) ≡ true
 data_claimed v f e i is few =
     run_claimed v f (range_of v e) (block_of_address v.agblocks v.agblklog e.start + i)
-    (member_left (range_of v e) (map (range_of v) f.extents ++ map range_of_block f.tree) (map (range_of v) f.attr_extents)
-    (member_left (range_of v e) (map (range_of v) f.extents) (map range_of_block f.tree) (member_map (range_of v) e f.extents is))) (omega arith) (omega (arith, few))
+    (member_left (range_of v e) (map (range_of v) f.extents ++ map range_of_block f.rest.tree) (map (range_of v) f.rest.attr_extents)
+    (member_left (range_of v e) (map (range_of v) f.extents) (map range_of_block f.rest.tree) (member_map (range_of v) e f.extents is))) (omega arith) (omega (arith, few))
 
 -- a block of the tree of these extents
-pub tree_claimed : (v : Volume) (f : FileRec) (block : ℕ) → Member block f.tree → claims v f block ≡ true
+pub tree_claimed : (v : Volume) (f : FileRec) (block : ℕ) → Member block f.rest.tree → claims v f block ≡ true
 tree_claimed v f block is =
     run_claimed v f (range_of_block block) block
-    (member_left (range_of_block block) (map (range_of v) f.extents ++ map range_of_block f.tree) (map (range_of v) f.attr_extents)
-    (member_right (range_of_block block) (map (range_of v) f.extents) (map range_of_block f.tree) (member_map range_of_block block f.tree is))) (omega arith) (omega arith)
+    (member_left (range_of_block block) (map (range_of v) f.extents ++ map range_of_block f.rest.tree) (map (range_of v) f.rest.attr_extents)
+    (member_right (range_of_block block) (map (range_of v) f.extents) (map range_of_block f.rest.tree) (member_map range_of_block block f.rest.tree is))) (omega arith) (omega arith)
 
 -- a block of an extent of its attributes
-pub attr_claimed : (v : Volume) (f : FileRec) (e : Extent) (i : ℕ) → Member e f.attr_extents → i < e.count → claims v f (block_of_address v.agblocks v.agblklog e.start + i) ≡ true
+pub attr_claimed : (v : Volume) (f : FileRec) (e : Extent) (i : ℕ) → Member e f.rest.attr_extents → i < e.count → claims v f (block_of_address v.agblocks v.agblklog e.start + i) ≡ true
 attr_claimed v f e i is few =
     run_claimed v f (range_of v e) (block_of_address v.agblocks v.agblklog e.start + i)
-    (member_right (range_of v e) (map (range_of v) f.extents ++ map range_of_block f.tree) (map (range_of v) f.attr_extents) (member_map (range_of v) e f.attr_extents is)) (omega arith) (omega (arith, few))
+    (member_right (range_of v e) (map (range_of v) f.extents ++ map range_of_block f.rest.tree) (map (range_of v) f.rest.attr_extents) (member_map (range_of v) e f.rest.attr_extents is)) (omega arith) (omega (arith, few))

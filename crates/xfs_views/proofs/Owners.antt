@@ -117,12 +117,12 @@ groups_cluster v a b (g ∷ gs) q are is owner on =
 -- the runs of a file have its number as owner
 file_owner : (v : Volume) (f : FileRec) (q : Run) → Member q (file_runs v f) → q.owner ≡ f.ino
 file_owner v f q is =
-    elim (member_either q (map (extent_run v f.ino 0) f.extents ++ map (extent_run v f.ino (2 ^ 63)) f.attr_extents) (runs_of_blocks f.ino (2 ^ 62) f.tree) is) [
-      | inl forks ↦ elim (member_either q (map (extent_run v f.ino 0) f.extents) (map (extent_run v f.ino (2 ^ 63)) f.attr_extents) forks) [
+    elim (member_either q (map (extent_run v f.ino 0) f.extents ++ map (extent_run v f.ino (2 ^ 63)) f.rest.attr_extents) (runs_of_blocks f.ino (2 ^ 62) f.rest.tree) is) [
+      | inl forks ↦ elim (member_either q (map (extent_run v f.ino 0) f.extents) (map (extent_run v f.ino (2 ^ 63)) f.rest.attr_extents) forks) [
         | inl a ↦ let of = map_member (extent_run v f.ino 0) q f.extents a in sym (ap (λ (r : Run). r.owner) of.2)
-        | inr a ↦ let of = map_member (extent_run v f.ino (2 ^ 63)) q f.attr_extents a in sym (ap (λ (r : Run). r.owner) of.2)
+        | inr a ↦ let of = map_member (extent_run v f.ino (2 ^ 63)) q f.rest.attr_extents a in sym (ap (λ (r : Run). r.owner) of.2)
       ]
-      | inr a ↦ let of = map_member (λ block. new_run block 1 f.ino (2 ^ 62)) q f.tree a in sym (ap (λ (r : Run). r.owner) of.2)
+      | inr a ↦ let of = map_member (λ block. new_run block 1 f.ino (2 ^ 62)) q f.rest.tree a in sym (ap (λ (r : Run). r.owner) of.2)
     ]
 
 -- a run of a volume for clusters is that of one

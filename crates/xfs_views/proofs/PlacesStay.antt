@@ -121,10 +121,10 @@ module _ (g : Geometry) (image now : Image) (differ : DifferInBackups (volume_of
 
   file_stands : (f : FileRec) → Member f files → AllByRecursion (Stands image now) (file_places (volume_of g) f)
   file_stands f is =
-      all_join (Stands image now) (data_places (volume_of g) f ++ map (at 32) f.tree) (flat_map (extent_places (volume_of g) (λ offset. 24)) f.attr_extents)
-      (all_join (Stands image now) (data_places (volume_of g) f) (map (at 32) f.tree) (data_stand f is)
-      (all_map (Stands image now) (at 32) f.tree (λ block has. stands image now block 32 (claims_same g image now differ groups files space f is block (tree_claimed (volume_of g) f block has)))))
-      (extents_stand f is (λ offset. 24) f.attr_extents
+      all_join (Stands image now) (data_places (volume_of g) f ++ map (at 32) f.rest.tree) (flat_map (extent_places (volume_of g) (λ offset. 24)) f.rest.attr_extents)
+      (all_join (Stands image now) (data_places (volume_of g) f) (map (at 32) f.rest.tree) (data_stand f is)
+      (all_map (Stands image now) (at 32) f.rest.tree (λ block has. stands image now block 32 (claims_same g image now differ groups files space f is block (tree_claimed (volume_of g) f block has)))))
+      (extents_stand f is (λ offset. 24) f.rest.attr_extents
       (λ e i has few. claims_same g image now differ groups files space f is (block_of_address g.agblocks g.agblklog e.start + i) (attr_claimed (volume_of g) f e i has few)))
 
   pub places_stand : AreGroupsRead (volume_of g) image 0 groups → AllByRecursion (Stands image now) (lsn_places (volume_of g) groups files)

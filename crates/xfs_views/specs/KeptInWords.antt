@@ -40,6 +40,6 @@ pub record HasSameFields (a b : Core) : Type 0 where
 pub record IsKeptAs (v : Volume) (before after : Image) (file kept : FileRec) : Type 0 where
   pub fields : HasSameFields kept.core file.core
   pub bytes : (i : ℕ) → i < file.core.size → byte_over v after kept.extents i ≡ byte_over v before file.extents i
-  pub attrs : kept.attrs ≡ file.attrs
-  pub target : kept.target ≡ file.target
-  pub device : kept.device ≡ file.device
+  pub attrs : kept.rest.attrs ≡ file.rest.attrs
+  pub target : kept.rest.target ≡ file.rest.target
+  pub device : kept.rest.device ≡ file.rest.device
