@@ -77,10 +77,10 @@ pub runs_are : (g : Geometry) (f : FileRec) → HasLawfulForks (volume_of g) f �
 runs_are g f is =
     let v : Volume = volume_of g in
     let extents : List Run = map (extent_run v f.ino 0) f.extents in
-    let attributes : List Run = map (extent_run v f.ino attribute_flag) f.attr_extents in
-    All-append IsRun (extents ++ attributes) (runs_of_blocks f.ino tree_flag f.tree)
-    (All-append IsRun extents attributes (of_fork 0 f.extents (placed v f.ino f.extents is.extents)) (of_fork attribute_flag f.attr_extents (placed v f.ino f.attr_extents is.attr_extents)))
-    (All-map IsRun (λ block. new_run block 1 f.ino tree_flag) f.tree (All-weaker (λ block. block < g.dblocks) (λ block. IsRun (new_run block 1 f.ino tree_flag)) (block_is_run g f.ino tree_flag) f.tree is.tree))
+    let attributes : List Run = map (extent_run v f.ino attribute_flag) f.rest.attr_extents in
+    All-append IsRun (extents ++ attributes) (runs_of_blocks f.ino tree_flag f.rest.tree)
+    (All-append IsRun extents attributes (of_fork 0 f.extents (placed v f.ino f.extents is.extents)) (of_fork attribute_flag f.rest.attr_extents (placed v f.ino f.rest.attr_extents is.attr_extents)))
+    (All-map IsRun (λ block. new_run block 1 f.ino tree_flag) f.rest.tree (All-weaker (λ block. block < g.dblocks) (λ block. IsRun (new_run block 1 f.ino tree_flag)) (block_is_run g f.ino tree_flag) f.rest.tree is.tree))
   where
     of_fork : (flag : ℕ) (es : List Extent) → All (IsPlacedExtent (volume_of g)) es → All IsRun (map (extent_run (volume_of g) f.ino flag) es)
     of_fork flag es all =

@@ -20,10 +20,10 @@ pub(crate) fn is_file(g: &Geometry, file: &FileRec) -> bool
     if !are_extents(g, file.ino, file.extents.as_slice()) {
         return false;
     }
-    if !are_extents(g, file.ino, file.attr_extents.as_slice()) {
+    if !are_extents(g, file.ino, file.rest.attr_extents()) {
         return false;
     }
-    are_blocks(g, file.tree.as_slice())
+    are_blocks(g, file.rest.tree())
 }
 
 /// Whether the extents of a fork lie in the volume, in file order.

@@ -50,7 +50,7 @@ fn is_empty_regular(file: &FileRec) -> bool
     type_of(file) == REGULAR
         && file.core.size == 0
         && file.extents.as_slice().is_empty()
-        && file.tree.as_slice().is_empty()
+        && file.rest.tree().is_empty()
 }
 
 /// Whether a file is what its number asks for: the root a directory, a system inode an empty regular file.

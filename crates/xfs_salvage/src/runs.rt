@@ -42,8 +42,8 @@ pub fn push_file_runs(runs: &mut Vec<Run>, g: &Geometry, file: &FileRec) -> Resu
     ensures { OnOk result (runs.new.items ≡ runs.old.items ++ file_runs (volume_of g.now) file.now) }
 {
     push_extents(runs, g, file.ino, 0, file.extents.as_slice())?;
-    push_extents(runs, g, file.ino, ATTRIBUTE, file.attr_extents.as_slice())?;
-    push_blocks(runs, file.ino, file.tree.as_slice())
+    push_extents(runs, g, file.ino, ATTRIBUTE, file.rest.attr_extents())?;
+    push_blocks(runs, file.ino, file.rest.tree())
 }
 
 /// Adds the blocks of the extents of a fork, with the fork's flag.

@@ -16,8 +16,8 @@ push_extents-requires-clause-placed c =
 
 pub push_extents-requires-2-clause-placed : goal.push_extents-requires-2-clause-placed
 push_extents-requires-2-clause-placed c =
-    subst (λ (es : List Extent). All (IsPlacedExtent (volume_of c.args.g.now)) es) (sym c.as_slice-2.ensures)
-    (placed (volume_of c.args.g.now) c.args.file.now.ino c.args.file.now.attr_extents c.requires.attr_extents)
+    subst (λ (es : List Extent). All (IsPlacedExtent (volume_of c.args.g.now)) es) (sym c.attr_extents.ensures)
+    (placed (volume_of c.args.g.now) c.args.file.now.ino c.args.file.now.rest.attr_extents c.requires.attr_extents)
 
 pub returns : goal.returns
 returns c =
@@ -25,8 +25,8 @@ returns c =
     let f = c.args.file.now in
     subst (λ (all : List Run). OnOk c.push_blocks.result (c.push_blocks.new.runs.items ≡ all))
     (joined c.args.runs.now.items c.push_extents.new.runs.items c.push_extents-2.new.runs.items
-    (map (extent_run v f.ino 0) c.as_slice.result.now) (map (extent_run v f.ino attribute_flag) c.as_slice-2.result.now) (runs_of_blocks f.ino tree_flag c.as_slice-3.result.now)
-    (map (extent_run v f.ino 0) f.extents) (map (extent_run v f.ino attribute_flag) f.attr_extents) (runs_of_blocks f.ino tree_flag f.tree)
+    (map (extent_run v f.ino 0) c.as_slice.result.now) (map (extent_run v f.ino attribute_flag) c.attr_extents.result.now) (runs_of_blocks f.ino tree_flag c.tree.result.now)
+    (map (extent_run v f.ino 0) f.extents) (map (extent_run v f.ino attribute_flag) f.rest.attr_extents) (runs_of_blocks f.ino tree_flag f.rest.tree)
     c.in_ok-push_extents.ensures c.in_ok-push_extents-2.ensures
-    (ap (map (extent_run v f.ino 0)) c.as_slice.ensures) (ap (map (extent_run v f.ino attribute_flag)) c.as_slice-2.ensures) (ap (runs_of_blocks f.ino tree_flag) c.as_slice-3.ensures))
+    (ap (map (extent_run v f.ino 0)) c.as_slice.ensures) (ap (map (extent_run v f.ino attribute_flag)) c.attr_extents.ensures) (ap (runs_of_blocks f.ino tree_flag) c.tree.ensures))
     c.push_blocks.ensures
