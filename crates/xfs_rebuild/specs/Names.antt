@@ -8,6 +8,7 @@ use Rattle.xfs_volume.specs.Laws.{first_broken}
 use Rattle.xfs_volume.specs.declared.cores.Core.{Core}
 use Rattle.xfs_volume.specs.declared.directories.DirRec.{DirRec}
 use Rattle.xfs_volume.specs.declared.files.FileRec.{FileRec}
+use Rattle.xfs_volume.specs.Rest.{no_rest}
 use Rattle.xfs_render.specs.declared.wanted_slots.SlotBase.{SlotBase}
 use Rattle.xfs_render.specs.declared.wanted_slots.SlotBase.TheVariants.{Free, Fresh, Kept}
 use Rattle.xfs_render.specs.declared.wanted_slots.SlotWanted.{SlotWanted}
@@ -28,7 +29,7 @@ linked_files root kept = map (linked_file root kept) kept.files
 
 -- a file that is made anew: what its core says, and nothing beside
 abbrev pub new_file : ℕ → Core → FileRec
-new_file ino core = record { ino = ino; core = core; extents = []; attr_extents = []; tree = []; attrs = []; target = []; device = 0 }
+new_file ino core = record { ino = ino; core = core; extents = []; rest = no_rest }
 
 abbrev pub made_of : ℕ → SlotBase → List FileRec
 made_of ino Kept = []

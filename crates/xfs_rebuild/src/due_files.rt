@@ -17,7 +17,7 @@ use xfs_disk::NoMemory;
 use xfs_naming::{Link, Numbered};
 use xfs_render::{SlotBase, SlotWanted};
 use xfs_request::{Near, directories_of, links_due};
-use xfs_volume::{Core, DirRec, Extents, Few, FileRec};
+use xfs_volume::{Core, DirRec, Extents, FileRec, Rest};
 
 /// How many links each file is to have. `NoMemory` where memory is wanting, or where a number cannot be held.
 pub(crate) fn all_due(
@@ -108,11 +108,7 @@ fn new_file(ino: u64, core: &Core) -> FileRec
         ino,
         core: *core,
         extents: Extents::new(),
-        attr_extents: Few::new(),
-        tree: Few::new(),
-        attrs: Few::new(),
-        target: Few::new(),
-        device: 0,
+        rest: Rest::none(),
     }
 }
 
