@@ -85,9 +85,9 @@ module _ (v : Volume) (rebuilt fresh : List ℕ) where
     where
       by_among : (t : Bool) → All P (file_runs v (if t then without_data f else f))
       by_among true =
-          let own : List Run = map (extent_run v f.ino attribute_flag) f.attr_extents in
-          All-append P own [] (back P (map (extent_run v f.ino 0) f.extents) (map (extent_run v f.ino attribute_flag) f.attr_extents)
-          (front P (map (extent_run v f.ino 0) f.extents ++ map (extent_run v f.ino attribute_flag) f.attr_extents) (runs_of_blocks f.ino tree_flag f.tree) all)) (All-nil P)
+          let own : List Run = map (extent_run v f.ino attribute_flag) f.rest.attr_extents in
+          All-append P own [] (back P (map (extent_run v f.ino 0) f.extents) (map (extent_run v f.ino attribute_flag) f.rest.attr_extents)
+          (front P (map (extent_run v f.ino 0) f.extents ++ map (extent_run v f.ino attribute_flag) f.rest.attr_extents) (runs_of_blocks f.ino tree_flag f.rest.tree) all)) (All-nil P)
       by_among false = all
 
   -- and no more of these have a block
@@ -96,10 +96,10 @@ module _ (v : Volume) (rebuilt fresh : List ℕ) where
     where
       by_among : (t : Bool) → runs_on (file_runs v (if t then without_data f else f)) b ≤ runs_on (file_runs v f) b
       by_among true =
-          let first = both_on b (map (extent_run v f.ino attribute_flag) f.attr_extents) [] in
+          let first = both_on b (map (extent_run v f.ino attribute_flag) f.rest.attr_extents) [] in
           let none : runs_on [] b ≡ 0 = refl in
-          let all = both_on b (map (extent_run v f.ino 0) f.extents ++ map (extent_run v f.ino attribute_flag) f.attr_extents) (runs_of_blocks f.ino tree_flag f.tree) in
-          let two = both_on b (map (extent_run v f.ino 0) f.extents) (map (extent_run v f.ino attribute_flag) f.attr_extents) in
+          let all = both_on b (map (extent_run v f.ino 0) f.extents ++ map (extent_run v f.ino attribute_flag) f.rest.attr_extents) (runs_of_blocks f.ino tree_flag f.rest.tree) in
+          let two = both_on b (map (extent_run v f.ino 0) f.extents) (map (extent_run v f.ino attribute_flag) f.rest.attr_extents) in
           omega (arith, first, none, all, two)
       by_among false = omega arith
 

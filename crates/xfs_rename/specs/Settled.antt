@@ -22,7 +22,7 @@ pub record AreWanted (g : Geometry) (n : NamesDue) (l : Lost) (w : WantedNames) 
 
 -- a directory that is built anew gives its blocks up, but for those of its attributes
 abbrev pub without_data : FileRec → FileRec
-without_data f = record f { extents = []; tree = [] }
+without_data f = record f { extents = []; rest = record f.rest { tree = [] } }
 
 abbrev pub staying_file : List ℕ → FileRec → FileRec
 staying_file rebuilt f = if is_among rebuilt f.ino then without_data f else f

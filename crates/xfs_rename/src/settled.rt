@@ -9,7 +9,7 @@ ghost use Rattle.xfs_rename.specs.Settled.{fresh_with, is_old, staying_file, sta
 use xfs_changes::Lost;
 use xfs_disk::NoMemory;
 use xfs_salvage::is_among;
-use xfs_volume::{Extents, Few, FileRec};
+use xfs_volume::{Extents, FileRec};
 
 /// The files that were there before, without the blocks of directories that are built anew.
 #[tactic(auto, unfolding(crate::specs::Settled::staying_files))]
@@ -59,7 +59,7 @@ fn leave_data(rebuilt: &[u64], file: &mut FileRec)
 {
     if is_among(rebuilt, file.ino) {
         file.extents = Extents::new();
-        file.tree = Few::new();
+        file.rest.clear_tree();
     }
 }
 
