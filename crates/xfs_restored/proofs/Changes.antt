@@ -104,11 +104,13 @@ module _ (v : Volume) (ino nlink : ℕ) (old new : List ℕ) (sets : SetsLinks v
         ino = ino;
         core = after;
         extents = is.held.records;
-        attr_extents = has.fork.extents;
-        tree = is.held.blocks;
-        attrs = has.fork.attrs;
-        target = target;
-        device = device;
+        rest = record {
+          attr_extents = has.fork.extents;
+          tree = is.held.blocks;
+          attrs = has.fork.attrs;
+          target = target;
+          device = device;
+        };
       } in f) (target_same v core old new same link is.keeps) (device_same v core old new same) in
       reads_file v ino new tree attr_leaf link after is.held has.fork (links_in_use core is.in_use)
       (ap (λ (place : Option ℕ). feature_of v ino place attr_leaf) (attr_place_same v ino core old new links_forks) ∙ is.supported)
@@ -194,11 +196,13 @@ module _ (v : Volume) (ino nblocks : ℕ) (old new : List ℕ) (drops : DropsAtt
         ino = ino;
         core = after;
         extents = is.held.records;
-        attr_extents = [];
-        tree = is.held.blocks;
-        attrs = [];
-        target = target;
-        device = device;
+        rest = record {
+          attr_extents = [];
+          tree = is.held.blocks;
+          attrs = [];
+          target = target;
+          device = device;
+        };
       } in f) (target_same v core old new same link is.keeps) (device_same v core old new same) in
       let blocks : nblocks ≡ extent_blocks is.held.records + length is.held.blocks + 0 = add_none nblocks (extent_blocks is.held.records + length is.held.blocks) (counted ∙ sym (ap own_blocks bare)) in
       reads_file v ino new tree None link after is.held no_attrs (drops_in_use core is.in_use)

@@ -26,6 +26,7 @@ use Rattle.xfs_views.proofs.Names.{entries_grouped}
 use Rattle.xfs_volume.specs.Names.{is_directory}
 use Rattle.xfs_volume.specs.declared.directories.DirRec.{DirRec}
 use Rattle.xfs_volume.specs.declared.files.FileRec.{FileRec}
+use Rattle.xfs_volume.specs.Rest.{no_rest}
 use Rattle.xfs_request.specs.Fresh.{new_slot, new_root_core, new_root_slot, new_system_core, new_system_slot}
 use Rattle.xfs_request.specs.declared.seen.SlotSeen.{SlotSeen}
 use Rattle.xfs_render.specs.Slots.{IsMadeSlot}
@@ -265,11 +266,7 @@ module _ (g : Geometry) (s : Stamp) (image now : Image) (kept : Salvaged) (seen 
     ino = ino;
     core = record (if t then new_root_core (volume_of g) s else new_system_core (volume_of g) s ino) { crc = crc ino };
     extents = [];
-    attr_extents = [];
-    tree = [];
-    attrs = [];
-    target = [];
-    device = 0;
+    rest = no_rest;
   }
 
   made_entries : (ino : ℕ) → Member ino kept.fresh → (t : Bool) → (ino == g.rootino) ≡ t → entries_of (volume_of g) now (made_by t ino) ≡ []

@@ -35,11 +35,11 @@ use Rattle.xfs_built.specs.Directories.{BuiltRuns}
 use Rattle.xfs_restored.specs.Relinking.{extents_built, file_with_links, with_built}
 
 -- of a directory that has no tree: in its blocks, or in those of its attributes
-split_places : (v : Volume) (place : LsnPlace) (f : FileRec) → type_of f ≡ 4 → f.tree ≡ [] → Member place (file_places v f)
-    → Member place (flat_map (extent_places v dir_byte) f.extents) ⊎ Member place (flat_map (extent_places v (λ offset. 24)) f.attr_extents)
+split_places : (v : Volume) (place : LsnPlace) (f : FileRec) → type_of f ≡ 4 → f.rest.tree ≡ [] → Member place (file_places v f)
+    → Member place (flat_map (extent_places v dir_byte) f.extents) ⊎ Member place (flat_map (extent_places v (λ offset. 24)) f.rest.attr_extents)
 split_places v place f kind tree is =
-    elim (member_either place (data_places v f ++ map (at 32) f.tree) (flat_map (extent_places v (λ offset. 24)) f.attr_extents) is) [
-      | inl front ↦ elim (member_either place (data_places v f) (map (at 32) f.tree) front) [
+    elim (member_either place (data_places v f ++ map (at 32) f.rest.tree) (flat_map (extent_places v (λ offset. 24)) f.rest.attr_extents) is) [
+      | inl front ↦ elim (member_either place (data_places v f) (map (at 32) f.rest.tree) front) [
         | inl own ↦
             inl (subst (λ (t : Bool). Member place (if t then flat_map (extent_places v dir_byte) f.extents else if type_of f == 10 then flat_map (extent_places v (λ offset. 48)) f.extents else []))
             (eq-eqb (type_of f) 4 kind) own)
@@ -73,7 +73,7 @@ module _ (v : Volume) (s : Stamp) (l : Lost) (seen : List SlotSeen) (crc : ℕ �
   due_place (Some x) (Some d) kind is = elim (split_places v place (due (Some x) (Some d)) (kind refl) refl is) [
     | inl own ↦ inr (d, refl, own)
     | inr attribute ↦
-        inl (x, refl, member_right place (data_places v (without_data x) ++ map (at 32) []) (flat_map (extent_places v (λ offset. 24)) x.attr_extents) attribute)
+        inl (x, refl, member_right place (data_places v (without_data x) ++ map (at 32) []) (flat_map (extent_places v (λ offset. 24)) x.rest.attr_extents) attribute)
   ]
 
 -- a kept file that goes on has the same places

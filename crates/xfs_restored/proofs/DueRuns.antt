@@ -109,7 +109,7 @@ module _ (v : Volume) (s : Stamp) (l : Lost) (seen : List SlotSeen) (crc : ℕ �
       omega (arith, stays, none)
   due_sum (Some x) (Some d) own mine among =
       let on : is_among rebuilt x.ino ≡ true = ap (is_among rebuilt) (own x refl) ∙ among in
-      let attributes : List Run = map (extent_run v x.ino attribute_flag) x.attr_extents in
+      let attributes : List Run = map (extent_run v x.ino attribute_flag) x.rest.attr_extents in
       let es : ℕ → List Run = λ ino. map (extent_run v ino 0) (extents_built v d) in
       let stays : sum_by f (file_runs v (staying_file rebuilt x)) ≡ sum_by f attributes =
       ap (λ (t : Bool). sum_by f (file_runs v (if t then without_data x else x))) on ∙ ap (sum_by f) (append-nil attributes) in

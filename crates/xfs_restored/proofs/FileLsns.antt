@@ -69,14 +69,14 @@ data_place_claimed v f place is = by_type (type_of f == 4) (type_of f == 10) is
 
 pub place_claimed : (v : Volume) (f : FileRec) (place : LsnPlace) → Member place (file_places v f) → claims v f place.block ≡ true
 place_claimed v f place is =
-    elim (member_either place (data_places v f ++ map (at 32) f.tree) (flat_map (extent_places v (λ offset. 24)) f.attr_extents) is) [
-      | inl front ↦ elim (member_either place (data_places v f) (map (at 32) f.tree) front) [
+    elim (member_either place (data_places v f ++ map (at 32) f.rest.tree) (flat_map (extent_places v (λ offset. 24)) f.rest.attr_extents) is) [
+      | inl front ↦ elim (member_either place (data_places v f) (map (at 32) f.rest.tree) front) [
         | inl of_data ↦ data_place_claimed v f place of_data
         | inr of_tree ↦
-            let one = map_member (at 32) place f.tree of_tree in
+            let one = map_member (at 32) place f.rest.tree of_tree in
             subst (λ (b : ℕ). claims v f b ≡ true) (ap (λ (p : LsnPlace). p.block) one.2) (tree_claimed v f one.0 one.1)
       ]
-      | inr of_attr ↦ extent_claimed v f f.attr_extents place (attr_claimed v f) (in_extents v (λ offset. 24) f.attr_extents place of_attr)
+      | inr of_attr ↦ extent_claimed v f f.rest.attr_extents place (attr_claimed v f) (in_extents v (λ offset. 24) f.rest.attr_extents place of_attr)
     ]
 
 -- places in order are the same places

@@ -20,6 +20,7 @@ use Rattle.xfs_inode.specs.declared.reading.SlotRead.TheVariants as Read
 use Rattle.xfs_render.specs.Slots.{IsFreeSlot, IsFreshSlot, IsMadeSlot, SetsFork}
 use Rattle.xfs_volume.specs.declared.cores.Core.{Core}
 use Rattle.xfs_volume.specs.declared.files.FileRec.{FileRec}
+use Rattle.xfs_volume.specs.Rest.{no_rest}
 use Rattle.xfs_request.specs.Fresh.{new_root_core, new_root_fork, new_root_slot, new_system_core, new_system_slot}
 use Rattle.xfs_request.specs.Slots.{freed_slot}
 
@@ -29,11 +30,7 @@ empty_file core crc = record {
   ino = core.ino;
   core = record core { crc = crc };
   extents = [];
-  attr_extents = [];
-  tree = [];
-  attrs = [];
-  target = [];
-  device = 0;
+  rest = no_rest;
 }
 
 -- what a slot reads as by itself decides what it reads as with the blocks that it names

@@ -28,18 +28,18 @@ pub record IsEmptyRegular (f : FileRec) : Type 0 where
   pub kind : type_of f ≡ 8
   pub size : f.core.size ≡ 0
   pub data_none : length f.extents ≡ 0
-  pub tree_none : length f.tree ≡ 0
+  pub tree_none : length f.rest.tree ≡ 0
 
 empty_is : (f : FileRec) → is_empty_regular f ≡ true → IsEmptyRegular f
 empty_is f is =
-    let one = and_parts (type_of f == 8 && f.core.size == 0 && length f.extents == 0) (length f.tree == 0) is in
+    let one = and_parts (type_of f == 8 && f.core.size == 0 && length f.extents == 0) (length f.rest.tree == 0) is in
     let two = and_parts (type_of f == 8 && f.core.size == 0) (length f.extents == 0) one.0 in
     let three = and_parts (type_of f == 8) (f.core.size == 0) two.0 in
     record {
       kind = eqb-true (type_of f) 8 three.0;
       size = eqb-true f.core.size 0 three.1;
       data_none = eqb-true (length f.extents) 0 two.1;
-      tree_none = eqb-true (length f.tree) 0 one.1;
+      tree_none = eqb-true (length f.rest.tree) 0 one.1;
     }
 
 -- a reserved inode but the root is one of the system's own

@@ -16,6 +16,7 @@ use Rattle.xfs_inode.specs.declared.files.FileRead.TheVariants as Reads
 use Rattle.xfs_naming.specs.Naming.{is_in_use}
 use Rattle.xfs_volume.specs.declared.cores.Core.{Core}
 use Rattle.xfs_volume.specs.declared.files.FileRec.{FileRec}
+use Rattle.xfs_volume.specs.Rest.{no_rest}
 use Rattle.xfs_views.proofs.FilesStay.{free_stays}
 use Rattle.xfs_views.proofs.Members.{Member, any_member, filter_member, member_any, member_flat}
 use Rattle.xfs_requested.proofs.Roots.{root_kept}
@@ -54,11 +55,7 @@ made_file ino core crc = record {
   ino = ino;
   core = record core { crc = crc };
   extents = [];
-  attr_extents = [];
-  tree = [];
-  attrs = [];
-  target = [];
-  device = 0;
+  rest = no_rest;
 }
 
 -- an inode that is made anew is the root or one of the two behind it

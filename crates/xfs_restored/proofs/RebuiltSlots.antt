@@ -175,8 +175,8 @@ module _ (v : Volume) (image : Image) (old : List ℕ) (f : FileRec) (reads : sl
   has : HasAttrs v f.ino old tree leaf link is.core is.held f
   has = attrs_have v f.ino old tree leaf link is.core is.held f is.attrs
 
-  own_extents : has.fork.extents ≡ f.attr_extents
-  own_extents = ap (λ (x : FileRec). x.attr_extents) has.is
+  own_extents : has.fork.extents ≡ f.rest.attr_extents
+  own_extents = ap (λ (x : FileRec). x.rest.attr_extents) has.is
 
   own_blocks_are : AreLeafBlocks v has.fork
   own_blocks_are = fork_blocks v f.ino is.core old has.fork leaf has.reads
@@ -215,13 +215,13 @@ module _ (v : Volume) (image : Image) (old : List ℕ) (f : FileRec) (reads : sl
       same_use a b same = cc
 
 -- one that lost them has none
-pub bare_extents : (v : Volume) (image : Image) (old : List ℕ) (f : FileRec) → slot_reads v image f.ino old ≡ Reads.FileWithoutAttrs f → f.attr_extents ≡ []
+pub bare_extents : (v : Volume) (image : Image) (old : List ℕ) (f : FileRec) → slot_reads v image f.ino old ≡ Reads.FileWithoutAttrs f → f.rest.attr_extents ≡ []
 bare_extents v image old f reads =
     let tree = tree_under v image f.ino (named_top v f.ino old) in
     let leaf = option_map (bytes_of_block image) (named_attr v f.ino old) in
     let link = option_map (bytes_of_block image) (named_link v f.ino old) in
     let is = file_has v f.ino old tree leaf link (Reads.FileWithoutAttrs f) tt reads in
-    ap (λ (x : FileRec). x.attr_extents) (sym (bare_is v f.ino old tree leaf link is.core is.held f is.attrs))
+    ap (λ (x : FileRec). x.rest.attr_extents) (sym (bare_is v f.ino old tree leaf link is.core is.held f is.attrs))
 
 -- the directory as it is due: with its number of names, and then with its new data fork
 abbrev pub due_with_fork : FileRec → Bool → ℕ → ℕ → ForkWanted → List Extent → FileRec

@@ -140,7 +140,7 @@ module _ (g : Geometry) (sector : List ℕ) (s : Stamp) (image now : Image) (e :
           kind = ap type_of same ∙ empty.kind;
           size = ap (λ (x : FileRec). x.core.size) same ∙ empty.size;
           data_none = ap (λ (x : FileRec). length x.extents) same ∙ empty.data_none;
-          tree_none = ap (λ (x : FileRec). length x.tree) same ∙ empty.tree_none;
+          tree_none = ap (λ (x : FileRec). length x.rest.tree) same ∙ empty.tree_none;
         }
 
     core_is : Member ino has.on.kept.fresh → core_anew (volume_of g) s l ino ≡ new_system_core (volume_of g) s ino
@@ -153,7 +153,7 @@ module _ (g : Geometry) (sector : List ℕ) (s : Stamp) (image now : Image) (e :
           kind = ap type_of same ∙ ap (λ (core : Core). core.mode / 2 ^ 12) (core_is is);
           size = ap (λ (x : FileRec). x.core.size) same ∙ ap (λ (core : Core). core.size) (core_is is);
           data_none = ap (λ (x : FileRec). length x.extents) same;
-          tree_none = ap (λ (x : FileRec). length x.tree) same;
+          tree_none = ap (λ (x : FileRec). length x.rest.tree) same;
         }
 
     pub system_file : Any (IsSystemFile ino) (renamed_files g s now has.on n has.is.w has.is.built has.is.placed)

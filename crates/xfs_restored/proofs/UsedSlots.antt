@@ -41,11 +41,13 @@ module _ (v : Volume) (ino : ℕ) (core : Core) (slot : List ℕ) (tree : Option
         ino = ino;
         core = core;
         extents = es;
-        attr_extents = fork.extents;
-        tree = [];
-        attrs = fork.attrs;
-        target = if t == 10 && core.format == 1 then part_of slot 176 core.size else if t == 10 && core.format == 2 then target_in core link else [];
-        device = if t == 2 || t == 6 then field_of slot 176 4 else 0;
+        rest = record {
+          attr_extents = fork.extents;
+          tree = [];
+          attrs = fork.attrs;
+          target = if t == 10 && core.format == 1 then part_of slot 176 core.size else if t == 10 && core.format == 2 then target_in core link else [];
+          device = if t == 2 || t == 6 then field_of slot 176 4 else 0;
+        };
       } in f) is.type'
 
   counted_is : is_counted core (fork_contents es) fork ≡ true

@@ -11,6 +11,7 @@ use Rattle.xfs_image.specs.Slots.{cluster_inodes, slot_bytes}
 use Rattle.xfs_volume.specs.declared.cores.Core.{Core}
 use Rattle.xfs_volume.specs.declared.directories.DirRec.{DirRec}
 use Rattle.xfs_volume.specs.declared.files.FileRec.{FileRec}
+use Rattle.xfs_volume.specs.Rest.{no_rest}
 use Rattle.xfs_salvage.specs.declared.found.Salvaged.{Salvaged}
 use Rattle.xfs_request.specs.Fresh.{new_root_core, new_system_core}
 use Rattle.xfs_request.specs.Slots.{is_bare, links_due, own_blocks, state_at}
@@ -53,11 +54,7 @@ fresh_file v s crc ino = record {
   ino = ino;
   core = record (new_core v s ino) { crc = crc ino };
   extents = [];
-  attr_extents = [];
-  tree = [];
-  attrs = [];
-  target = [];
-  device = 0;
+  rest = no_rest;
 }
 
 -- files that stand by number, with some others at their places

@@ -33,11 +33,13 @@ directory_file ino core es fork = record {
   ino = ino;
   core = core;
   extents = es;
-  attr_extents = fork.extents;
-  tree = [];
-  attrs = fork.attrs;
-  target = [];
-  device = 0;
+  rest = record {
+    attr_extents = fork.extents;
+    tree = [];
+    attrs = fork.attrs;
+    target = [];
+    device = 0;
+  };
 }
 
 -- the extents of runs lie in the volume in file order, and no two have a block in common
@@ -92,11 +94,13 @@ forked_file f core es = record {
   ino = f.ino;
   core = core;
   extents = es;
-  attr_extents = f.attr_extents;
-  tree = [];
-  attrs = f.attrs;
-  target = [];
-  device = 0;
+  rest = record {
+    attr_extents = f.rest.attr_extents;
+    tree = [];
+    attrs = f.rest.attrs;
+    target = [];
+    device = 0;
+  };
 }
 
 -- a data fork that is wanted stands beside the attribute fork of a slot: its blocks are counted with those of the attributes, and none of
