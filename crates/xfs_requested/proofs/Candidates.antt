@@ -86,12 +86,12 @@ file_apart : (g : Geometry) (f : FileRec) → HasLawfulForks (volume_of g) f →
 file_apart g f lies apart =
     let v : Volume = volume_of g in
     let of_data : List Run = map (extent_run v f.ino 0) f.extents in
-    let attr : List Run = map (extent_run v f.ino attribute_flag) f.attr_extents in
-    let tree : List Run = runs_of_blocks f.ino tree_flag f.tree in
+    let attr : List Run = map (extent_run v f.ino attribute_flag) f.rest.attr_extents in
+    let tree : List Run = runs_of_blocks f.ino tree_flag f.rest.tree in
     let all : claims_of v f ≡ map as_run ((spans_of of_data ++ spans_of tree) ++ spans_of attr) =
     ap₂ (λ (xs ys : List Claimed.BlockRange). xs ++ ys)
-    (ap₂ (λ (xs ys : List Claimed.BlockRange). xs ++ ys) (extents_as v f.ino 0 f.extents) (blocks_as f.ino tree_flag f.tree) ∙ sym (map-append as_run (spans_of of_data) (spans_of tree)))
-    (extents_as v f.ino attribute_flag f.attr_extents)
+    (ap₂ (λ (xs ys : List Claimed.BlockRange). xs ++ ys) (extents_as v f.ino 0 f.extents) (blocks_as f.ino tree_flag f.rest.tree) ∙ sym (map-append as_run (spans_of of_data) (spans_of tree)))
+    (extents_as v f.ino attribute_flag f.rest.attr_extents)
     ∙ sym (map-append as_run (spans_of of_data ++ spans_of tree) (spans_of attr)) in
     let once : SpansApart ((spans_of of_data ++ spans_of tree) ++ spans_of attr) =
     as_apart ((spans_of of_data ++ spans_of tree) ++ spans_of attr) (subst (λ (rs : List Claimed.BlockRange). Inode.ranges_apart rs ≡ true) all apart) in
@@ -132,7 +132,7 @@ bare_is : (v : Volume) (ino : ℕ) (file : FileRec) → IsBareFile v ino file �
 bare_is v ino file is = record {
   extents = as_lawful v file.ino None file.extents is.keeps.extents;
   attr_extents = subst (λ (es : List Extent). are_lawful (bmbt_shape file.ino) v None es ≡ true) (sym is.no_extents) refl;
-  tree = as_blocks v file.tree is.keeps.tree;
+  tree = as_blocks v file.rest.tree is.keeps.tree;
 }
 
 can_claim : (g : Geometry) (ino : ℕ) (file : FileRec) → ino < 2 ^ 63 → HasLawfulForks (volume_of g) file → Sound.IsFile (volume_of g) ino file → CanClaim (volume_of g) file

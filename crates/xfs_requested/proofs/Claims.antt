@@ -71,12 +71,12 @@ pub file_claims : (g : Geometry) (f : FileRec) → CanClaim (volume_of g) f → 
 file_claims g f can =
     let v : Volume = volume_of g in
     let extents : List Run = map (extent_run v f.ino 0) f.extents in
-    let attributes : List Run = map (extent_run v f.ino attribute_flag) f.attr_extents in
-    All-append (IsClaimedRun g.dblocks) (extents ++ attributes) (runs_of_blocks f.ino tree_flag f.tree)
+    let attributes : List Run = map (extent_run v f.ino attribute_flag) f.rest.attr_extents in
+    All-append (IsClaimedRun g.dblocks) (extents ++ attributes) (runs_of_blocks f.ino tree_flag f.rest.tree)
     (All-append (IsClaimedRun g.dblocks) extents attributes (of_fork 0 f.extents (inl refl) (placed v f.ino f.extents can.lies.extents))
-    (of_fork attribute_flag f.attr_extents (inr refl) (placed v f.ino f.attr_extents can.lies.attr_extents)))
-    (All-map (IsClaimedRun g.dblocks) (λ block. new_run block 1 f.ino tree_flag) f.tree
-    (All-weaker (λ block. block < g.dblocks) (λ block. IsClaimedRun g.dblocks (new_run block 1 f.ino tree_flag)) (block_claim g f.ino) f.tree can.lies.tree))
+    (of_fork attribute_flag f.rest.attr_extents (inr refl) (placed v f.ino f.rest.attr_extents can.lies.attr_extents)))
+    (All-map (IsClaimedRun g.dblocks) (λ block. new_run block 1 f.ino tree_flag) f.rest.tree
+    (All-weaker (λ block. block < g.dblocks) (λ block. IsClaimedRun g.dblocks (new_run block 1 f.ino tree_flag)) (block_claim g f.ino) f.rest.tree can.lies.tree))
   where
     of_fork : (flag : ℕ) (es : List Extent) → (flag ≡ 0) ⊎ (flag ≡ 2 ^ 63) → All (IsPlacedExtent (volume_of g)) es → All (IsClaimedRun g.dblocks) (map (extent_run (volume_of g) f.ino flag) es)
     of_fork flag es flagged all =

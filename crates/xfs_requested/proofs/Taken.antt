@@ -70,13 +70,13 @@ fork_owned v ino flag es number flagged all =
 file_owned : (v : Volume) (f : FileRec) → CanClaim v f → All HasOwner (file_runs v f)
 file_owned v f can =
     let extents : List Run = map (extent_run v f.ino 0) f.extents in
-    let attributes : List Run = map (extent_run v f.ino attribute_flag) f.attr_extents in
-    All-append HasOwner (extents ++ attributes) (runs_of_blocks f.ino tree_flag f.tree)
+    let attributes : List Run = map (extent_run v f.ino attribute_flag) f.rest.attr_extents in
+    All-append HasOwner (extents ++ attributes) (runs_of_blocks f.ino tree_flag f.rest.tree)
     (All-append HasOwner extents attributes
     (fork_owned v f.ino 0 f.extents can.number (omega arith) (placed v f.ino f.extents can.lies.extents))
-    (fork_owned v f.ino attribute_flag f.attr_extents can.number (omega arith) (placed v f.ino f.attr_extents can.lies.attr_extents)))
-    (All-map HasOwner (λ block. new_run block 1 f.ino tree_flag) f.tree
-    (All-weaker (λ block. block < v.dblocks) (λ block. HasOwner (new_run block 1 f.ino tree_flag)) (λ block inside. block_owned f.ino block can.number) f.tree can.lies.tree))
+    (fork_owned v f.ino attribute_flag f.rest.attr_extents can.number (omega arith) (placed v f.ino f.rest.attr_extents can.lies.attr_extents)))
+    (All-map HasOwner (λ block. new_run block 1 f.ino tree_flag) f.rest.tree
+    (All-weaker (λ block. block < v.dblocks) (λ block. HasOwner (new_run block 1 f.ino tree_flag)) (λ block inside. block_owned f.ino block can.number) f.rest.tree can.lies.tree))
 
 module _ (g : Geometry) (clusters : List ClusterRec) (files : List FileRec) where
   abbrev of_clusters : List Run
