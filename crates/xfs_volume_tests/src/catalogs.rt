@@ -17,7 +17,7 @@ use xfs_geom::{Counts, Geometry, InoRec, RmapRec, Span};
 use xfs_heads::{Agf, Agfl, Agi};
 use xfs_log::LogState;
 use xfs_volume::{
-    BlockLsn, Catalog, Core, DirRec, Extents, Few, FileRec, GroupRec, Law, Records, TreeBlocks,
+    BlockLsn, Catalog, Core, DirRec, Extents, FileRec, GroupRec, Law, Records, Rest, TreeBlocks,
 };
 use xfs_word::Extent;
 
@@ -300,18 +300,15 @@ impl Item for BlockLsn {
 impl Item for FileRec {
     fn read(rt: &impl Abort, alloc: Global, row: &mut Row) -> Self {
         let core = core(rt, row);
+        let data = must(rt, Extents::from_vec(alloc, extents(rt, alloc, row)));
+        let attr_extents = extents(rt, alloc, row);
+        let tree = records::<u64>(rt, alloc, row.text()).into_vec();
+        let (attrs, target) = (Vec::new(alloc), Vec::new(alloc));
         FileRec {
             ino: core.ino,
             core,
-            extents: must(rt, Extents::from_vec(alloc, extents(rt, alloc, row))),
-            attr_extents: must(rt, Few::from_vec(alloc, extents(rt, alloc, row))),
-            tree: must(
-                rt,
-                Few::from_vec(alloc, records::<u64>(rt, alloc, row.text()).into_vec()),
-            ),
-            attrs: Few::new(),
-            target: Few::new(),
-            device: 0,
+            extents: data,
+            rest: must(rt, Rest::new(alloc, attr_extents, tree, attrs, target, 0)),
         }
     }
 }

@@ -22,7 +22,7 @@ use xfs_disk::{BLOCK_SIZE, Disk, Word};
 use xfs_geom::Geometry;
 use xfs_kinds::Bmbt;
 use xfs_tree::Kind;
-use xfs_volume::{Core, Extents, Few, FileRec};
+use xfs_volume::{Core, Extents, FileRec, Rest};
 use xfs_word::{Extent, Seal, SealKind, put_part, put32, put64, seal};
 
 /// The identifier of the volume.
@@ -56,11 +56,7 @@ fn directory(rt: &impl Abort, alloc: Global, core: Core, count: u64, unwritten: 
         ino: 131,
         core,
         extents: must(rt, Extents::from_slice(alloc, &[extent])),
-        attr_extents: Few::new(),
-        tree: Few::new(),
-        attrs: Few::new(),
-        target: Few::new(),
-        device: 0,
+        rest: Rest::none(),
     }
 }
 

@@ -14,7 +14,7 @@ use xfs_disk::{BLOCK_SIZE, Disk};
 use xfs_journal::*;
 use xfs_log::LogState;
 use xfs_memory::MemoryDisk;
-use xfs_volume::{BlockLsn, Core, Extents, Few, FileRec, Records};
+use xfs_volume::{BlockLsn, Core, Extents, FileRec, Records, Rest};
 use xfs_word::{Extent, put64};
 
 /// An extent of two blocks.
@@ -32,6 +32,8 @@ fn file(rt: &impl Abort, alloc: Global, mode: u16, offset: u64) -> FileRec {
     let data = must(rt, vec![in alloc; extent(offset, 40)]);
     let attr_extents = must(rt, vec![in alloc; extent(0, 50)]);
     let tree = must(rt, vec![in alloc; 30]);
+    let (attrs, target) = (Vec::new(alloc), Vec::new(alloc));
+    let rest = Rest::new(alloc, attr_extents, tree, attrs, target, 0);
     FileRec {
         ino: 128,
         core: Core {
@@ -43,11 +45,7 @@ fn file(rt: &impl Abort, alloc: Global, mode: u16, offset: u64) -> FileRec {
             ..ROOT
         },
         extents: must(rt, Extents::from_vec(alloc, data)),
-        attr_extents: must(rt, Few::from_vec(alloc, attr_extents)),
-        tree: must(rt, Few::from_vec(alloc, tree)),
-        attrs: Few::new(),
-        target: Few::new(),
-        device: 0,
+        rest: must(rt, rest),
     }
 }
 

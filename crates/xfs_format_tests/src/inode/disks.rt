@@ -85,7 +85,7 @@ fn reads(
 fn is_whole(rt: &(impl Abort + AllocGlobal), file: &FileRec) {
     let core = (file.core.size, file.core.nextents, file.core.nblocks);
     tells(rt, &core, "(2449508, 300, 302)", "core");
-    tells(rt, &file.tree.as_slice(), "[300, 301]", "tree");
+    tells(rt, &file.rest.tree(), "[300, 301]", "tree");
     equal(rt, file.extents.as_slice().len(), 300);
     for (i, found) in file.extents.as_slice().iter().enumerate() {
         let i = i as u64;

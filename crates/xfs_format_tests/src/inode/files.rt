@@ -117,7 +117,7 @@ fn kind_of(rt: &impl Abort, read: Result<FileRead, NoMemory>) -> Kind {
     match read {
         Ok(FileRead::Free) => Kind::Free,
         Ok(FileRead::File(file)) => {
-            if file.as_file().target.as_slice() == b"a/b/c".as_slice() {
+            if file.as_file().rest.target() == b"a/b/c".as_slice() {
                 Kind::Link
             } else {
                 Kind::File

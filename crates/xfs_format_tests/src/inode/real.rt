@@ -44,11 +44,11 @@ fn same_attributes(rt: &impl Abort, attrs: &[Attr], due: &str) {
 fn same_file(rt: &(impl Abort + AllocGlobal), file: &FileRec, case: &str, mut due: Row) {
     tells(rt, &file.core, due.text(), case);
     tells(rt, &file.extents.as_slice(), due.text(), case);
-    tells(rt, &file.attr_extents.as_slice(), due.text(), case);
-    tells(rt, &file.tree.as_slice(), due.text(), case);
-    equal_at(rt, file.device, due.number(rt), case);
-    same_attributes(rt, file.attrs.as_slice(), due.text());
-    equal_at(rt, file.target.as_slice(), due.text().as_bytes(), case);
+    tells(rt, &file.rest.attr_extents(), due.text(), case);
+    tells(rt, &file.rest.tree(), due.text(), case);
+    equal_at(rt, file.rest.device(), due.number(rt), case);
+    same_attributes(rt, file.rest.attrs(), due.text());
+    equal_at(rt, file.rest.target(), due.text().as_bytes(), case);
 }
 
 /// Tests that an inode reads as it is printed.

@@ -31,8 +31,8 @@ fn is_file(g: &Geometry, file: &FileRec) -> bool
 {
     let kind = Bmbt { ino: file.ino };
     are_lawful(&kind, g, file.extents.as_slice())
-        && are_lawful(&kind, g, file.attr_extents.as_slice())
-        && are_inside(g, file.tree.as_slice())
+        && are_lawful(&kind, g, file.rest.attr_extents())
+        && are_inside(g, file.rest.tree())
 }
 
 /// Whether the blocks are those of the volume.
