@@ -14,7 +14,7 @@ use Rattle.xfs_slots.specs.declared.inodes.Inodes.{Inodes}
 
 -- the extents of both forks of a file
 abbrev pub extents_of : FileRec → ℕ
-extents_of = λ (f : FileRec). length f.extents + length f.attr_extents
+extents_of = λ (f : FileRec). length f.extents + length f.rest.attr_extents
 
 -- a count above its limit is refused, else what comes later
 abbrev pub unless_more : ℕ → ℕ → ℕ → Option ScanFault → Option ScanFault

@@ -55,9 +55,7 @@ pub fn count_extents(files: &[FileRec]) -> Option<u64>
 fn count_more(count: u64, file: &FileRec) -> Option<u64>
     ensures { SomeIff result (count + extents_of file.now < 2 ^ 64) (count + extents_of file.now) }
 {
-    count.checked_add(
-        file.extents.as_slice().len() as u64 + file.attr_extents.as_slice().len() as u64,
-    )
+    count.checked_add(file.extents.as_slice().len() as u64 + file.rest.attr_extents().len() as u64)
 }
 
 /// Why a volume is refused whose clusters are not too many.
