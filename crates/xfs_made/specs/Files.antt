@@ -7,6 +7,7 @@ use Rattle.xfs_geom.specs.Volumes.{Volume}
 use Rattle.xfs_volume.specs.declared.cores.Core.{Core}
 use Rattle.xfs_volume.specs.declared.directories.DirRec.{DirRec}
 use Rattle.xfs_volume.specs.declared.files.FileRec.{FileRec}
+use Rattle.xfs_volume.specs.Rest.{no_rest}
 use Rattle.xfs_image.specs.Slots.{slot_bytes}
 use Rattle.xfs_render.specs.Slots.{IsMadeSlot}
 use Rattle.xfs_render.specs.declared.wanted_slots.SlotWanted.{SlotWanted}
@@ -29,11 +30,7 @@ plain_file core crc = record {
   ino = core.ino;
   core = record core { crc = crc };
   extents = [];
-  attr_extents = [];
-  tree = [];
-  attrs = [];
-  target = [];
-  device = 0;
+  rest = no_rest;
 }
 
 -- the checksum of the slot of an inode
