@@ -286,7 +286,7 @@ module _ (g : Geometry) (image now : Image) (differ : DifferInBackups (volume_of
 
   extents_same : total_extents (volume_of g) now ≡ total_extents (volume_of g) image
   unfolding total_extents
-  extents_same = ap (sum_by (λ (f : FileRec). length f.extents + length f.attr_extents)) files_same
+  extents_same = ap (sum_by (λ (f : FileRec). length f.extents + length f.rest.attr_extents)) files_same
 
   entry_counts_same : entry_count (volume_of g) now ≡ entry_count (volume_of g) image
   unfolding entry_count
