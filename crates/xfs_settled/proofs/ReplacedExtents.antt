@@ -37,8 +37,8 @@ module _ (g : Geometry) (s : Stamp) (image : Image) (e : Evidence) (on : Ground)
       subst (λ (runs : List Run). Member (extent_run v f.ino 0 x) runs) (sym (taken_is g s image e on n has))
       (member_right (extent_run v f.ino 0 x) (map run_of_cluster on.kept.clusters) (flat_map (file_runs v) on.kept.files)
       (member_flat (file_runs v) f (extent_run v f.ino 0 x) on.kept.files is
-      (member_left (extent_run v f.ino 0 x) (map (extent_run v f.ino 0) f.extents ++ map (extent_run v f.ino attribute_flag) f.attr_extents) (runs_of_blocks f.ino tree_flag f.tree)
-      (member_left (extent_run v f.ino 0 x) (map (extent_run v f.ino 0) f.extents) (map (extent_run v f.ino attribute_flag) f.attr_extents)
+      (member_left (extent_run v f.ino 0 x) (map (extent_run v f.ino 0) f.extents ++ map (extent_run v f.ino attribute_flag) f.rest.attr_extents) (runs_of_blocks f.ino tree_flag f.rest.tree)
+      (member_left (extent_run v f.ino 0 x) (map (extent_run v f.ino 0) f.extents) (map (extent_run v f.ino attribute_flag) f.rest.attr_extents)
       (member_map (extent_run v f.ino 0) x f.extents there)))))
 
   extent_inside : (f : FileRec) (x : Extent) → Member f on.kept.files → Member x f.extents → LiesInside g x
