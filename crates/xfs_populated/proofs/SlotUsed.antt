@@ -24,11 +24,13 @@ bare_file ino core es target device = record {
   ino = ino;
   core = core;
   extents = es;
-  attr_extents = [];
-  tree = [];
-  attrs = [];
-  target = target;
-  device = device;
+  rest = record {
+    attr_extents = [];
+    tree = [];
+    attrs = [];
+    target = target;
+    device = device;
+  };
 }
 
 -- the core and the data fork of a file without attributes keep the rules

@@ -75,11 +75,13 @@ module _ (v : Volume) (s : Stamp) (starts : List ℕ) (ns : List ProtoNode) (con
     ino = number_of v starts k;
     core = with_fork (core_at v s starts ns k) (filled_fork k) (crc (number_of v starts k));
     extents = if (filled_fork k).format == 2 then extents_of_owner v (number_of v starts k) runs else [];
-    attr_extents = [];
-    tree = [];
-    attrs = [];
-    target = target_of_kind (node_at ns k).kind;
-    device = device_of_kind (node_at ns k).kind;
+    rest = record {
+      attr_extents = [];
+      tree = [];
+      attrs = [];
+      target = target_of_kind (node_at ns k).kind;
+      device = device_of_kind (node_at ns k).kind;
+    };
   }
 
   -- all files by number: the root, the two system inodes, and the others behind them
