@@ -40,9 +40,9 @@ loop-i-preserved g c =
       seen = λ image told.
           held_run (λ block. each_of 8 (seen_in (bytes_of_block image block))) c.args.g.now.log c.loop-i.i n c.args.g.now.logblocks c.loop-i.seen.items c.see_blocks.new.seen.items _ room
           (c.in-Ok-see_blocks.ensures ∙ ap (λ (bytes : List ℕ). c.loop-i.seen.items ++ seen_in_blocks bytes 0 (length bytes / 4096)) shown
-              ∙ ap (λ (k : ℕ). c.loop-i.seen.items ++ seen_in_blocks c.read_blocks.new.run 0 k) (whole_blocks n (length c.read_blocks.new.run) long)
-              ∙ ap (λ xs. c.loop-i.seen.items ++ xs) (seen_read image (c.args.g.now.log + c.loop-i.i) n c.read_blocks.new.run
-                  (subst (λ (k : ℕ). AreBlocksFrom image (c.args.g.now.log + c.loop-i.i) k c.read_blocks.new.run) count (c.in-Ok.ensures.bytes image (before.disk.same_contents ∙ told)))))
+          ∙ ap (λ (k : ℕ). c.loop-i.seen.items ++ seen_in_blocks c.read_blocks.new.run 0 k) (whole_blocks n (length c.read_blocks.new.run) long)
+          ∙ ap (λ xs. c.loop-i.seen.items ++ xs) (seen_read image (c.args.g.now.log + c.loop-i.i) n c.read_blocks.new.run
+          (subst (λ (k : ℕ). AreBlocksFrom image (c.args.g.now.log + c.loop-i.i) k c.read_blocks.new.run) count (c.in-Ok.ensures.bytes image (before.disk.same_contents ∙ told)))))
           (before.seen image told);
       run = room_kept n c.read_blocks.new.run c.loop-i.run few long before.run;
       later = let up = before.later in let cause = c.in-Ok.ensures.cause in omega (arith, up, cause);
