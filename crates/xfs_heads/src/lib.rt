@@ -1,5 +1,5 @@
 //! The headers of an allocation group: of its free space (AGF), of its inodes (AGI), and the list of the
-//! blocks that are kept ready for its trees (AGFL). Nothing here takes memory.
+//! blocks that are kept ready for its trees (AGFL); and what the state of a log is. Nothing here takes memory.
 //!
 //! Each header is read as a plain record, or as none where its seal or a bound fails, and written from one; the tables of
 //! their fields serve the debugger too.
@@ -22,9 +22,11 @@ mod free_space;
 mod heads;
 mod inodes;
 pub mod layouts;
+mod log_state;
 
 pub use arrays::ArrayLayout;
 pub use free_list::{Agfl, put_agfl, read_agfl};
 pub use free_space::{Agf, put_agf, read_agf};
 pub use heads::clear;
 pub use inodes::{Agi, put_agi, read_agi};
+pub use log_state::LogState;

@@ -6,7 +6,7 @@ use Rattle.xfs_geom.specs.Volumes.{Volume, volume_of}
 use Rattle.xfs_geom.specs.declared.geometry.Geometry.{Geometry}
 use Rattle.xfs_geom.specs.declared.records.Counts.{Counts}
 use Rattle.xfs_log.specs.Log.{seen_of, state_of}
-use Rattle.xfs_log.specs.declared.state.LogState.{LogState}
+use Rattle.xfs_log.specs.xfs_heads.declared.log_state.LogState.{LogState}
 use Rattle.xfs_volume.specs.declared.catalogs.Catalog.{Catalog}
 use Rattle.xfs_volume.specs.declared.files.FileRec.{FileRec}
 use Rattle.xfs_volume.specs.declared.groups.GroupRec.{GroupRec}

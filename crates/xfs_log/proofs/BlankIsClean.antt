@@ -8,7 +8,7 @@ use Rattle.std.proofs.Math.Nat.{mod-eq_of_lt}
 use Rattle.xfs_log.specs.Log.{is_of_cycle, sector_at, last_header, nearest_header, data_sectors, has_unmount_flag, is_unmount, ends_at, ends_in_unmount, is_unmounted, head_number, state_of}
 use Rattle.xfs_log.specs.BlankLog.{blank_seen, blank_log}
 use Rattle.xfs_log.specs.declared.sectors.SectorSeen.{SectorSeen}
-use Rattle.xfs_log.specs.declared.state.LogState.TheVariants.{Clean}
+use Rattle.xfs_heads.specs.declared.log_state.LogState.TheVariants.{Clean}
 use Rattle.xfs_log.proofs.CleanLog.{of_head}
 
 late : (cycle place : ℕ) → 2 ≤ place → (blank_seen cycle place).cycle ≡ cycle - 1

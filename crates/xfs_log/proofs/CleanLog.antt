@@ -4,8 +4,8 @@ use Rattle.std.specs.List.{list_all}
 use Rattle.std.proofs.lemmas.Bool.{cond-true, cond-false}
 use Rattle.xfs_log.specs.Log.{is_unwritten_sector, first_cycle, front, is_unmounted, is_cleared, head_number, IsHead, state_of}
 use Rattle.xfs_log.specs.declared.sectors.SectorSeen.{SectorSeen}
-use Rattle.xfs_log.specs.declared.state.LogState.{LogState}
-use Rattle.xfs_log.specs.declared.state.LogState.TheVariants.{Clean, Dirty}
+use Rattle.xfs_heads.specs.declared.log_state.LogState.{LogState}
+use Rattle.xfs_heads.specs.declared.log_state.LogState.TheVariants.{Clean, Dirty}
 use Rattle.xfs_log.proofs.Alone.{alone}
 
 number_of : LogState → ℕ

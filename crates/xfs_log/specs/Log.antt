@@ -5,8 +5,8 @@ use Rattle.std.specs.Int.RustNames.{bit_and}
 use Rattle.xfs_geom.specs.Features.{or_else}
 use Rattle.xfs_word.specs.Field.{field_of}
 use Rattle.xfs_log.specs.declared.sectors.SectorSeen.{SectorSeen}
-use Rattle.xfs_log.specs.declared.state.LogState.{LogState}
-use Rattle.xfs_log.specs.declared.state.LogState.TheVariants.{Clean, Dirty}
+use Rattle.xfs_heads.specs.declared.log_state.LogState.{LogState}
+use Rattle.xfs_heads.specs.declared.log_state.LogState.TheVariants.{Clean, Dirty}
 
 -- a sector begins a record where its first number is the magic number of a record's header
 abbrev pub is_header : List ℕ → Bool

@@ -16,4 +16,5 @@ mod state;
 
 pub use blank::blank_log_sector;
 pub use sectors::{SectorSeen, see_sector};
-pub use state::{LogState, log_state};
+pub use state::log_state;
+pub use xfs_heads::LogState;

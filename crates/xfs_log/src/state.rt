@@ -4,17 +4,10 @@ ghost use Rattle.std.specs.Prelude.{◌≡◌, ℕ, ◌+◌, ◌*◌, ◌^◌, �
 ghost use Rattle.std.specs.List.{list_all, prefix_len};
 ghost use Rattle.xfs_log.specs.Log.{is_unwritten_sector, is_of_cycle, first_cycle, last_header, nearest_header, is_unmount, ends_at, ends_in_unmount, is_unmounted, has_cleared_cycles, is_cleared, is_record, head_number, state_of, IsHead, IsAlone};
 ghost use Rattle.xfs_log.specs.BlankLog.{blank_log};
-ghost use Rattle.xfs_log.specs.declared.state.LogState.TheVariants.{Clean};
+ghost use Rattle.xfs_heads.specs.declared.log_state.LogState.TheVariants.{Clean};
 
 use crate::sectors::SectorSeen;
-
-/// Whether a log is clean. The head of a clean log has the cycle in the upper half of its number, and the
-/// sector at which the next record begins in the lower.
-#[derive(Clone, Copy, Debug, PartialEq, Eq)]
-pub enum LogState {
-    Clean { head: u64 },
-    Dirty,
-}
+use xfs_heads::LogState;
 
 /// The sectors that the tools of XFS write at once when they clear a log.
 const CLEARED: usize = 512;

@@ -10,7 +10,7 @@ use Rattle.xfs_geom.specs.declared.records.Span.{Span}
 use Rattle.xfs_heads.specs.declared.free_list.Agfl.{Agfl}
 use Rattle.xfs_heads.specs.declared.free_space.Agf.{Agf}
 use Rattle.xfs_heads.specs.declared.inodes.Agi.{Agi}
-use Rattle.xfs_log.specs.declared.state.LogState.TheVariants.{Clean}
+use Rattle.xfs_log.specs.xfs_heads.declared.log_state.LogState.TheVariants.{Clean}
 use Rattle.xfs_kinds.specs.FreeTrees.{bno_shape, cnt_shape}
 use Rattle.xfs_kinds.specs.InodeTrees.{ino_shape, fino_shape}
 use Rattle.xfs_kinds.specs.OwnerTrees.{rmap_shape}

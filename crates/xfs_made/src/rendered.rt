@@ -4,7 +4,7 @@ ghost use Rattle.std.specs.Prelude.{◌≡◌, ℕ, ◌+◌, ◌*◌, ◌^◌, �
 ghost use Rattle.std.specs.List.{All};
 ghost use Rattle.xfs_disk.specs.Blocks.{Image};
 ghost use Rattle.xfs_geom.specs.Conversions.{inode_of};
-ghost use Rattle.xfs_log.specs.declared.state.LogState.{LogState};
+ghost use Rattle.xfs_log.specs.xfs_heads.declared.log_state.LogState.{LogState};
 ghost use Rattle.xfs_place.specs.declared.placed.Placed.{Placed};
 ghost use Rattle.xfs_place.specs.declared.wanted.Wanted.{Wanted};
 ghost use Rattle.xfs_image.specs.Consistent.{IsElected, backup_agrees};

@@ -5,8 +5,8 @@ use Rattle.xfs_disk.specs.declared.stamp.Stamp.{Stamp}
 use Rattle.xfs_geom.specs.Election.{elected}
 use Rattle.xfs_geom.specs.Volumes.{Volume, volume_of}
 use Rattle.xfs_geom.specs.declared.geometry.Geometry.{Geometry}
-use Rattle.xfs_log.specs.declared.state.LogState.{LogState}
-use Rattle.xfs_log.specs.declared.state.LogState.TheVariants as Log
+use Rattle.xfs_log.specs.xfs_heads.declared.log_state.LogState.{LogState}
+use Rattle.xfs_log.specs.xfs_heads.declared.log_state.LogState.TheVariants as Log
 use Rattle.xfs_volume.specs.Laws.{first_broken}
 use Rattle.xfs_volume.specs.declared.catalogs.BlockLsn.{BlockLsn}
 use Rattle.xfs_volume.specs.declared.catalogs.Catalog.{Catalog}

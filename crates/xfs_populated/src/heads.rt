@@ -5,7 +5,7 @@ ghost use Rattle.xfs_disk.specs.Blocks.{Image};
 ghost use Rattle.xfs_disk.specs.declared.stamp.Stamp.{Stamp};
 ghost use Rattle.xfs_geom.specs.Volumes.{volume_of};
 ghost use Rattle.xfs_geom.specs.declared.geometry.Geometry.{Geometry};
-ghost use Rattle.xfs_log.specs.declared.state.LogState.TheVariants.{Clean};
+ghost use Rattle.xfs_log.specs.xfs_heads.declared.log_state.LogState.TheVariants.{Clean};
 ghost use Rattle.xfs_image.specs.Consistent.{IsElected, backup_agrees};
 ghost use Rattle.xfs_image.specs.Groups.{groups_read};
 ghost use Rattle.xfs_image.specs.View.{counts_of, log_of};

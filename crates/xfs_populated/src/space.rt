@@ -6,7 +6,7 @@ ghost use Rattle.xfs_disk.specs.Blocks.{Image};
 ghost use Rattle.xfs_disk.specs.declared.stamp.Stamp.{Stamp};
 ghost use Rattle.xfs_geom.specs.Volumes.{volume_of};
 ghost use Rattle.xfs_geom.specs.declared.geometry.Geometry.{Geometry};
-ghost use Rattle.xfs_log.specs.declared.state.LogState.TheVariants.{Clean};
+ghost use Rattle.xfs_log.specs.xfs_heads.declared.log_state.LogState.TheVariants.{Clean};
 ghost use Rattle.xfs_image.specs.Lsns.{LsnPlace, lsn_at, lsn_places, lsn_places_in_order, lsns_read};
 ghost use Rattle.xfs_laws.specs.Counting.{chunk_laws, counter_laws, list_laws, log_laws};
 ghost use Rattle.xfs_made.specs.Volumes.{no_lsn};

@@ -5,7 +5,7 @@ use Rattle.xfs_disk.specs.Blocks.{Image}
 use Rattle.xfs_disk.specs.declared.stamp.Stamp.{Stamp}
 use Rattle.xfs_geom.specs.Volumes.{volume_of}
 use Rattle.xfs_geom.specs.declared.geometry.Geometry.{Geometry}
-use Rattle.xfs_log.specs.declared.state.LogState.{LogState}
+use Rattle.xfs_log.specs.xfs_heads.declared.log_state.LogState.{LogState}
 use Rattle.xfs_render.specs.declared.bytes.Bytes.{Bytes}
 use Rattle.xfs_render.specs.declared.wanted_slots.SlotWanted.{SlotWanted}
 use Rattle.xfs_request.specs.declared.seen.SlotSeen.{SlotSeen}

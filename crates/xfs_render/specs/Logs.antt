@@ -7,7 +7,7 @@ use Rattle.xfs_geom.specs.Volumes.{Volume}
 use Rattle.xfs_log.specs.BlankLog.{IsBlank, blank_seen}
 use Rattle.xfs_log.specs.Log.{seen_of, state_of}
 use Rattle.xfs_log.specs.Sectors.{log_sectors}
-use Rattle.xfs_log.specs.declared.state.LogState.TheVariants.{Clean}
+use Rattle.xfs_log.specs.xfs_heads.declared.log_state.LogState.TheVariants.{Clean}
 use Rattle.xfs_tree.specs.Blocks.{each_of}
 use Rattle.xfs_render.specs.Drafts.{Adds, HoldsDraft, last_block}
 use Rattle.xfs_render.specs.declared.draft.Draft.{Draft}

@@ -3,8 +3,8 @@ use Rattle.std.specs.Prelude.{ℕ, Bool, false, not, max, ◌+◌, ◌-◌, ◌/
 use Rattle.std.specs.List.{flat_map, list_all}
 use Rattle.xfs_disk.specs.Lists.{is_among}
 use Rattle.xfs_geom.specs.Volumes.{Volume}
-use Rattle.xfs_log.specs.declared.state.LogState.{LogState}
-use Rattle.xfs_log.specs.declared.state.LogState.TheVariants.{Clean, Dirty}
+use Rattle.xfs_log.specs.xfs_heads.declared.log_state.LogState.{LogState}
+use Rattle.xfs_log.specs.xfs_heads.declared.log_state.LogState.TheVariants.{Clean, Dirty}
 use Rattle.xfs_image.specs.Clusters.{cluster_of}
 use Rattle.xfs_laws.specs.Counting.{is_behind}
 use Rattle.xfs_naming.specs.Naming.{is_in_use}

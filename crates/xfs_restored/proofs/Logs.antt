@@ -5,8 +5,8 @@ use Rattle.xfs_disk.specs.Blocks.{Image, bytes_of_block}
 use Rattle.xfs_disk.specs.declared.stamp.Stamp.{Stamp}
 use Rattle.xfs_geom.specs.Volumes.{volume_of}
 use Rattle.xfs_geom.specs.declared.geometry.Geometry.{Geometry}
-use Rattle.xfs_log.specs.declared.state.LogState.{LogState}
-use Rattle.xfs_log.specs.declared.state.LogState.TheVariants.{Clean, Dirty}
+use Rattle.xfs_log.specs.xfs_heads.declared.log_state.LogState.{LogState}
+use Rattle.xfs_log.specs.xfs_heads.declared.log_state.LogState.TheVariants.{Clean, Dirty}
 use Rattle.xfs_image.specs.Consistent.{IsElected, backup_agrees}
 use Rattle.xfs_image.specs.Groups.{groups_read}
 use Rattle.xfs_image.specs.View.{counts_of, log_of}

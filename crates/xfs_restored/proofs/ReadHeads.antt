@@ -13,7 +13,7 @@ use Rattle.xfs_geom.specs.Runs.{covers}
 use Rattle.xfs_geom.specs.Volumes.{Volume, volume_of}
 use Rattle.xfs_geom.specs.declared.geometry.Geometry.{Geometry}
 use Rattle.xfs_geom.specs.declared.records.Run.{Run}
-use Rattle.xfs_log.specs.declared.state.LogState.TheVariants.{Clean}
+use Rattle.xfs_log.specs.xfs_heads.declared.log_state.LogState.TheVariants.{Clean}
 use Rattle.xfs_image.specs.Consistent.{IsElected, backup_agrees}
 use Rattle.xfs_image.specs.Groups.{groups_read}
 use Rattle.xfs_image.specs.View.{counts_of, log_of}

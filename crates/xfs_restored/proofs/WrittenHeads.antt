@@ -3,8 +3,8 @@ use Rattle.std.proofs.Common.{◌≡◌, ℕ, Bool, true, false, max, ◌+◌, �
 use Rattle.std.specs.Prelude.{MatchOption}
 use Rattle.std.specs.List.{list_all}
 use Rattle.std.proofs.lemmas.Bool.{and_parts, le-leb, or_right}
-use Rattle.xfs_log.specs.declared.state.LogState.{LogState}
-use Rattle.xfs_log.specs.declared.state.LogState.TheVariants.{Clean, Dirty}
+use Rattle.xfs_log.specs.xfs_heads.declared.log_state.LogState.{LogState}
+use Rattle.xfs_log.specs.xfs_heads.declared.log_state.LogState.TheVariants.{Clean, Dirty}
 use Rattle.xfs_laws.specs.Counting.{head_of, is_behind}
 use Rattle.xfs_views.proofs.Members.{Member}
 use Rattle.xfs_request.specs.Cycles.{cycle_of, greatest_cycle, keeps_log}

@@ -16,7 +16,7 @@ use Rattle.xfs_image.specs.View.{catalog_of, counts_of, if_read, log_of, view}
 use Rattle.xfs_image.specs.Directories.{dirs_read, entries_read}
 use Rattle.xfs_image.specs.Lsns.{lsns_read}
 use Rattle.xfs_geom.specs.declared.records.Counts.{Counts}
-use Rattle.xfs_log.specs.declared.state.LogState.{LogState}
+use Rattle.xfs_log.specs.xfs_heads.declared.log_state.LogState.{LogState}
 use Rattle.xfs_dirdata.specs.declared.records.EntryRec.{EntryRec}
 use Rattle.xfs_volume.specs.declared.directories.DirRec.{DirRec}
 use Rattle.xfs_volume.specs.declared.catalogs.BlockLsn.{BlockLsn}

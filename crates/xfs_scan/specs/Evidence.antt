@@ -6,7 +6,7 @@ use Rattle.xfs_geom.specs.declared.geometry.Geometry.{Geometry}
 use Rattle.xfs_groups.specs.Answers.{lists_of, reserved_lists}
 use Rattle.xfs_groups.specs.declared.groups.GroupTrees.{GroupTrees}
 use Rattle.xfs_groups.specs.declared.groups.Groups.{Groups}
-use Rattle.xfs_log.specs.declared.state.LogState.{LogState}
+use Rattle.xfs_log.specs.xfs_heads.declared.log_state.LogState.{LogState}
 use Rattle.xfs_volume.specs.declared.catalogs.Catalog.{Catalog}
 use Rattle.xfs_volume.specs.declared.clusters.ClusterRec.{ClusterRec}
 use Rattle.xfs_image.specs.declared.findings.Finding.{Finding}

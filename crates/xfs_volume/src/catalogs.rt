@@ -6,7 +6,7 @@ use crate::groups::GroupRec;
 use crate::lists::Records;
 use xfs_dirdata::EntryRec;
 use xfs_geom::{Counts, Geometry};
-use xfs_log::LogState;
+use xfs_heads::LogState;
 
 /// A block with a log sequence number that it states.
 #[derive(Clone, Copy, PartialEq, Eq)]

@@ -5,7 +5,7 @@ use Rattle.xfs_disk.specs.Blocks.{Image}
 use Rattle.xfs_disk.specs.declared.stamp.Stamp.{Stamp}
 use Rattle.xfs_geom.specs.Volumes.{volume_of}
 use Rattle.xfs_geom.specs.declared.geometry.Geometry.{Geometry}
-use Rattle.xfs_log.specs.declared.state.LogState.{LogState}
+use Rattle.xfs_log.specs.xfs_heads.declared.log_state.LogState.{LogState}
 use Rattle.xfs_image.specs.Files.{clusters_of}
 use Rattle.xfs_image.specs.Lsns.{LsnPlace, at, groups_places, lsn_at, lsns_read}
 use Rattle.xfs_laws.specs.Counting.{by_group, group_chains, head_of, is_behind, log_laws}
