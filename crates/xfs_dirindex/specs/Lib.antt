@@ -9,3 +9,4 @@ pub mod Lookup
 pub mod IndexTree
 pub mod FreeBlocks
 pub mod Node
+pub use Rattle.xfs_dirdata.specs as xfs_dirdata

@@ -6,7 +6,7 @@ use Rattle.std.specs.Cmp.Derive.{both_true}
 use Rattle.xfs_geom.specs.Conversions.{group_length, is_fixed}
 use Rattle.xfs_geom.specs.Shape.{HasGroups}
 use Rattle.xfs_geom.specs.Volumes.{Volume}
-use Rattle.xfs_kinds.specs.InodeTrees.{are_free_of_use, ino_shape}
+use Rattle.xfs_place.specs.xfs_kinds.InodeTrees.{are_free_of_use, ino_shape}
 use Rattle.xfs_tree.specs.Rules.{are_lawful}
 use Rattle.xfs_empty.specs.Geometry.{HasFirstChunk}
 use Rattle.xfs_empty.specs.Placing.{chunks_of, first_chunk}

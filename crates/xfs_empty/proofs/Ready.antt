@@ -8,7 +8,7 @@ use Rattle.xfs_geom.specs.Volumes.{volume_of, stated_volume}
 use Rattle.xfs_geom.specs.Writing.{IsAcceptedSector}
 use Rattle.xfs_geom.specs.declared.geometry.Geometry.{Geometry}
 use Rattle.xfs_geom.specs.declared.records.InoRec.{InoRec}
-use Rattle.xfs_kinds.specs.InodeTrees.{ino_shape}
+use Rattle.xfs_place.specs.xfs_kinds.InodeTrees.{ino_shape}
 use Rattle.xfs_place.specs.declared.wanted.GroupInodes.{GroupInodes}
 use Rattle.xfs_render.specs.Clusters.{CanCluster}
 use Rattle.xfs_render.specs.Readiness.{HasBytes, HasOwner, IsWritable}

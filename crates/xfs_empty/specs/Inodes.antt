@@ -3,7 +3,7 @@ use Rattle.std.specs.Prelude.{◌≡◌, ℕ, ◌+◌, ◌*◌, ◌^◌, ◌≤�
 use Rattle.xfs_disk.specs.declared.stamp.Stamp.{Stamp}
 use Rattle.xfs_dirdata.specs.Short.{short_of}
 use Rattle.xfs_geom.specs.Volumes.{Volume}
-use Rattle.xfs_inodebuild.specs.declared.forks.ForkWanted.{ForkWanted}
+use Rattle.xfs_render.specs.xfs_inodebuild.declared.forks.ForkWanted.{ForkWanted}
 use Rattle.xfs_render.specs.declared.wanted_slots.SlotBase.TheVariants.{Free, Fresh}
 use Rattle.xfs_render.specs.declared.wanted_slots.SlotWanted.{SlotWanted}
 use Rattle.xfs_volume.specs.declared.cores.Core.{Core}

@@ -8,8 +8,7 @@ use std::alloc::Global;
 use xfs_dirdata::put_short;
 use xfs_disk::{NoMemory, Stamp, Word};
 use xfs_geom::Geometry;
-use xfs_inodebuild::ForkWanted;
-use xfs_render::{SlotBase, SlotWanted};
+use xfs_render::{ForkWanted, SlotBase, SlotWanted};
 use xfs_volume::Core;
 
 /// The number of the root inode of a new volume: the first of the chunk at blocks 16 to 23.

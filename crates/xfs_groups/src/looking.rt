@@ -7,7 +7,7 @@ ghost use Rattle.xfs_disk.specs.Faults.{HasCause};
 ghost use Rattle.xfs_geom.specs.Conversions.{inode_of};
 ghost use Rattle.xfs_geom.specs.Volumes.{volume_of};
 ghost use Rattle.xfs_image.specs.Candidates.{is_used_slot, has_whole_seal, owner_due, whole_seal};
-ghost use Rattle.xfs_inode.specs.Slots.{slot_seal};
+ghost use Rattle.xfs_image.specs.xfs_inode.Slots.{slot_seal};
 ghost use Rattle.xfs_disk.specs.Reads.{OnlyReads};
 ghost use Rattle.xfs_disk.specs.Blocks.{bytes_of_block};
 ghost use Rattle.xfs_word.specs.Field.{field_of};

@@ -3,7 +3,7 @@
 use Rattle.std.specs.Prelude.{ℕ, Bool, false, ◌+◌, ◌*◌, ◌/◌, ◌==◌, ◌&&◌, ◌||◌, nat_le, nat_lt, if◌then◌else◌, List, [], ◌∷◌, ◌++◌, map, Option, Some, None}
 use Rattle.std.specs.List.{filter, flat_map, list_all, list_any, range_with_len}
 use Rattle.std.specs.Option.{option_and_then, option_map}
-use Rattle.xfs_kinds.specs.Owners.{clusters_owner}
+use Rattle.xfs_inode.specs.xfs_kinds.Owners.{clusters_owner}
 use Rattle.xfs_disk.specs.Lists.{is_among}
 use Rattle.xfs_disk.specs.Blocks.{Image}
 use Rattle.xfs_geom.specs.Conversions.{group_length}
@@ -11,8 +11,8 @@ use Rattle.xfs_geom.specs.Groups.{block_of_address}
 use Rattle.xfs_geom.specs.Volumes.{Volume}
 use Rattle.xfs_geom.specs.declared.records.InoRec.{InoRec}
 use Rattle.xfs_geom.specs.declared.records.RmapRec.{RmapRec}
-use Rattle.xfs_tree.specs.Blocks.{each_of}
-use Rattle.xfs_kinds.specs.InodeTrees.{is_missing}
+use Rattle.xfs_inode.specs.xfs_tree.Blocks.{each_of}
+use Rattle.xfs_inode.specs.xfs_kinds.InodeTrees.{is_missing}
 use Rattle.xfs_image.specs.Groups.{head_block, agf_at, agi_at, ino_at, rmap_at}
 
 -- the clusters of a chunk of a group that begins at a block: two, where neither the first half of its inodes is missing nor

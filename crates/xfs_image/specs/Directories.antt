@@ -9,10 +9,10 @@ use Rattle.xfs_word.specs.declared.kinds.SealKind.TheVariants as Kind
 use Rattle.xfs_disk.specs.Blocks.{Image, bytes_of_block}
 use Rattle.xfs_geom.specs.Groups.{block_of_address}
 use Rattle.xfs_geom.specs.Volumes.{Volume}
-use Rattle.xfs_tree.specs.Blocks.{each_of}
-use Rattle.xfs_dirdata.specs.Data.{DataArea, data_of}
-use Rattle.xfs_dirdata.specs.Short.{ShortForm, short_of}
-use Rattle.xfs_dirdata.specs.declared.records.EntryRec.{EntryRec}
+use Rattle.xfs_inode.specs.xfs_tree.Blocks.{each_of}
+use Rattle.xfs_dirindex.specs.xfs_dirdata.Data.{DataArea, data_of}
+use Rattle.xfs_dirindex.specs.xfs_dirdata.Short.{ShortForm, short_of}
+use Rattle.xfs_dirindex.specs.xfs_dirdata.declared.records.EntryRec.{EntryRec}
 use Rattle.xfs_dirindex.specs.Block.{is_whole_block}
 use Rattle.xfs_dirindex.specs.Data.{is_dots, is_parent_name}
 use Rattle.xfs_dirindex.specs.Leaf.{is_whole_leaf}

@@ -7,18 +7,18 @@ use Rattle.xfs_geom.specs.Volumes.{Volume}
 use Rattle.xfs_geom.specs.declared.records.InoRec.{InoRec}
 use Rattle.xfs_geom.specs.declared.records.RmapRec.{RmapRec}
 use Rattle.xfs_geom.specs.declared.records.Span.{Span}
-use Rattle.xfs_heads.specs.FreeSpace.{agf_of}
-use Rattle.xfs_heads.specs.Inodes.{agi_of}
-use Rattle.xfs_heads.specs.FreeList.{agfl_of}
-use Rattle.xfs_heads.specs.declared.free_space.Agf.{Agf}
-use Rattle.xfs_heads.specs.declared.inodes.Agi.{Agi}
-use Rattle.xfs_heads.specs.declared.free_list.Agfl.{Agfl}
-use Rattle.xfs_tree.specs.Shape.{Shape}
-use Rattle.xfs_tree.specs.Reading.{Contents, reading, root_seat}
-use Rattle.xfs_tree.specs.declared.unread.Unread.{Unread}
-use Rattle.xfs_kinds.specs.FreeTrees.{bno_shape, cnt_shape}
-use Rattle.xfs_kinds.specs.InodeTrees.{ino_shape, fino_shape}
-use Rattle.xfs_kinds.specs.OwnerTrees.{rmap_shape}
+use Rattle.xfs_log.specs.xfs_heads.FreeSpace.{agf_of}
+use Rattle.xfs_log.specs.xfs_heads.Inodes.{agi_of}
+use Rattle.xfs_log.specs.xfs_heads.FreeList.{agfl_of}
+use Rattle.xfs_log.specs.xfs_heads.declared.free_space.Agf.{Agf}
+use Rattle.xfs_log.specs.xfs_heads.declared.inodes.Agi.{Agi}
+use Rattle.xfs_log.specs.xfs_heads.declared.free_list.Agfl.{Agfl}
+use Rattle.xfs_inode.specs.xfs_tree.Shape.{Shape}
+use Rattle.xfs_inode.specs.xfs_tree.Reading.{Contents, reading, root_seat}
+use Rattle.xfs_inode.specs.xfs_tree.declared.unread.Unread.{Unread}
+use Rattle.xfs_inode.specs.xfs_kinds.FreeTrees.{bno_shape, cnt_shape}
+use Rattle.xfs_inode.specs.xfs_kinds.InodeTrees.{ino_shape, fino_shape}
+use Rattle.xfs_inode.specs.xfs_kinds.OwnerTrees.{rmap_shape}
 use Rattle.xfs_volume.specs.declared.groups.GroupRec.{GroupRec}
 use Rattle.xfs_volume.specs.declared.groups.TreeBlocks.{TreeBlocks}
 use Rattle.xfs_image.specs.declared.findings.Finding.{Finding}

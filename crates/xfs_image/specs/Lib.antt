@@ -12,3 +12,4 @@ pub mod Claims
 pub mod Keeping
 pub mod Examples
 pub mod Reserved
+pub use Rattle.xfs_inode.specs as xfs_inode

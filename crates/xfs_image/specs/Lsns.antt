@@ -6,7 +6,7 @@ use Rattle.xfs_word.specs.declared.extents.Extent.{Extent}
 use Rattle.xfs_disk.specs.Blocks.{Image, bytes_of_block}
 use Rattle.xfs_geom.specs.Groups.{block_of_address}
 use Rattle.xfs_geom.specs.Volumes.{Volume}
-use Rattle.xfs_tree.specs.Blocks.{each_of}
+use Rattle.xfs_inode.specs.xfs_tree.Blocks.{each_of}
 use Rattle.xfs_volume.specs.Names.{type_of}
 use Rattle.xfs_volume.specs.declared.catalogs.BlockLsn.{BlockLsn}
 use Rattle.xfs_volume.specs.declared.files.FileRec.{FileRec}

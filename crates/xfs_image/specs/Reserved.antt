@@ -8,7 +8,7 @@ use Rattle.xfs_word.specs.declared.kinds.SealKind.TheVariants as Kind
 use Rattle.xfs_disk.specs.Blocks.{Image, bytes_of_block}
 use Rattle.xfs_geom.specs.Conversions.{group_length}
 use Rattle.xfs_geom.specs.Volumes.{Volume}
-use Rattle.xfs_tree.specs.Reading.{Contents}
+use Rattle.xfs_inode.specs.xfs_tree.Reading.{Contents}
 use Rattle.xfs_image.specs.Candidates.{is_used_slot, whole_seal}
 use Rattle.xfs_image.specs.Claims.{is_of_cluster}
 use Rattle.xfs_image.specs.Clusters.{is_trusted, named_by_chunks, named_by_owners}

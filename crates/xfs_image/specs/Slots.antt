@@ -4,7 +4,7 @@ use Rattle.std.specs.List.{flat_map, range_with_len}
 use Rattle.xfs_disk.specs.Blocks.{Image}
 use Rattle.xfs_geom.specs.Conversions.{inode_of, slot_at}
 use Rattle.xfs_geom.specs.Volumes.{Volume}
-use Rattle.xfs_tree.specs.Blocks.{each_of}
+use Rattle.xfs_inode.specs.xfs_tree.Blocks.{each_of}
 use Rattle.xfs_inode.specs.Named.{slot_reads}
 use Rattle.xfs_inode.specs.declared.files.FileRead.{FileRead}
 use Rattle.xfs_log.specs.Sectors.{sector_in}

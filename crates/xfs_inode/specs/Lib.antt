@@ -5,3 +5,5 @@ pub mod Files
 pub mod Named
 pub mod Sound
 pub mod Private
+pub use Rattle.xfs_tree.specs as xfs_tree
+pub use Rattle.xfs_kinds.specs as xfs_kinds

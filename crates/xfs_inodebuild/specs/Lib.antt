@@ -1,1 +1,2 @@
 pub mod Writing
+pub use Rattle.xfs_inode.specs as xfs_inode

@@ -17,3 +17,4 @@ pub mod Lengths
 pub mod MergedRuns
 pub mod Owners
 pub mod FixedRuns
+pub use Rattle.xfs_tree.specs as xfs_tree

@@ -13,3 +13,5 @@ pub mod Conditions
 pub mod Grouped
 pub mod Roots
 mod Verdicts
+pub use Rattle.xfs_space.proofs as xfs_space
+pub use Rattle.xfs_naming.proofs as xfs_naming

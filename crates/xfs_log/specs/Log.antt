@@ -2,7 +2,7 @@
 use Rattle.std.specs.Prelude.{◌≡◌, ℕ, ◌+◌, ◌-◌, ◌*◌, ◌/◌, ◌%◌, ◌^◌, ◌⊎◌, Bool, true, false, not, ◌&&◌, ◌||◌, ◌==◌, nat_le, nat_lt, min, if◌then◌else◌, List, [], ◌∷◌, length, take, drop, slice_index_or, Option, Some, None, IsTrue}
 use Rattle.std.specs.List.{list_all, prefix_len}
 use Rattle.std.specs.Int.RustNames.{bit_and}
-use Rattle.xfs_geom.specs.Features.{or_else}
+use Rattle.xfs_heads.specs.xfs_geom.Features.{or_else}
 use Rattle.xfs_word.specs.Field.{field_of}
 use Rattle.xfs_log.specs.declared.sectors.SectorSeen.{SectorSeen}
 use Rattle.xfs_heads.specs.declared.log_state.LogState.{LogState}

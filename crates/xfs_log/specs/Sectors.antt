@@ -3,7 +3,7 @@ use Rattle.std.specs.Prelude.{ℕ, ◌*◌, List, map}
 use Rattle.std.specs.List.{flat_map, range_with_len}
 use Rattle.xfs_word.specs.Field.{part_of}
 use Rattle.xfs_disk.specs.Blocks.{Image, bytes_of_block}
-use Rattle.xfs_geom.specs.Volumes.{Volume}
+use Rattle.xfs_heads.specs.xfs_geom.Volumes.{Volume}
 
 -- one of the eight sectors of 512 bytes of a block
 abbrev pub sector_in : Image → ℕ → ℕ → List ℕ

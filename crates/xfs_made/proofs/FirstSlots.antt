@@ -13,7 +13,7 @@ use Rattle.xfs_geom.specs.Shape.{HasGroups, HasAddresses}
 use Rattle.xfs_geom.specs.Volumes.{Volume}
 use Rattle.xfs_inode.specs.Cores.{stated_core}
 use Rattle.xfs_inode.specs.Slots.{slot_read}
-use Rattle.xfs_inodebuild.specs.declared.forks.ForkWanted.{ForkWanted}
+use Rattle.xfs_render.specs.xfs_inodebuild.declared.forks.ForkWanted.{ForkWanted}
 use Rattle.xfs_inode.specs.declared.reading.SlotRead.TheVariants as Read
 use Rattle.xfs_volume.specs.declared.cores.Core.{Core}
 use Rattle.xfs_image.specs.Slots.{slot_bytes}

@@ -36,3 +36,5 @@ pub mod Once
 pub mod Counting
 pub mod TreesApart
 pub mod PlansApart
+pub use Rattle.xfs_laws.proofs as xfs_laws
+pub use Rattle.xfs_views.proofs as xfs_views

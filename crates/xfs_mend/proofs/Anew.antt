@@ -6,10 +6,10 @@ use Rattle.xfs_geom.specs.declared.geometry.Geometry.{Geometry}
 use Rattle.xfs_empty.proofs.Room.{has_room}
 use Rattle.xfs_scan.specs.Evidence.{IsEvidence}
 use Rattle.xfs_scan.specs.declared.evidence.Evidence.{Evidence}
-use Rattle.xfs_rebuild.specs.Rebuilds.{IsRebuildOf, asked}
-use Rattle.xfs_rebuild.specs.Refusals.{IsRefused}
-use Rattle.xfs_rebuild.specs.declared.faults.RebuildFault.TheVariants as faults
-use Rattle.xfs_rebuild.specs.declared.planning.Rebuilt.{Rebuilt}
+use Rattle.xfs_rename.specs.xfs_rebuild.Rebuilds.{IsRebuildOf, asked}
+use Rattle.xfs_rename.specs.xfs_rebuild.Refusals.{IsRefused}
+use Rattle.xfs_rename.specs.xfs_rebuild.declared.faults.RebuildFault.TheVariants as faults
+use Rattle.xfs_rename.specs.xfs_rebuild.declared.planning.Rebuilt.{Rebuilt}
 use Rattle.xfs_place.specs.declared.faults.Unplaced.{Unplaced}
 use Rattle.xfs_mend.proofs.Rebuilt.{is_rebuilt}
 use Rattle.xfs_mend.specs.Due.{IsOwed}

@@ -17,15 +17,15 @@ use Rattle.xfs_place.specs.Wanted.{FindsNoRoom, IsWithoutRoom, all_kept, wanted_
 use Rattle.xfs_place.specs.declared.faults.Unplaced.{Unplaced}
 use Rattle.xfs_place.specs.declared.wanted.GroupInodes.{GroupInodes}
 use Rattle.xfs_place.specs.declared.wanted.Wanted.{Wanted}
-use Rattle.xfs_rebuild.specs.Found.{IsKept, reserved_of}
-use Rattle.xfs_rebuild.specs.Rebuilds.{Ground, IsGround}
-use Rattle.xfs_rebuild.specs.Seen.{slots_seen}
-use Rattle.xfs_salvage.specs.Kept.{entries_of_kept, fresh_inodes, kept_clusters, kept_dirs, kept_files}
-use Rattle.xfs_salvage.specs.declared.found.Salvaged.{Salvaged}
+use Rattle.xfs_rename.specs.xfs_rebuild.Found.{IsKept, reserved_of}
+use Rattle.xfs_rename.specs.xfs_rebuild.Rebuilds.{Ground, IsGround}
+use Rattle.xfs_rename.specs.xfs_rebuild.Seen.{slots_seen}
+use Rattle.xfs_rename.specs.xfs_salvage.Kept.{entries_of_kept, fresh_inodes, kept_clusters, kept_dirs, kept_files}
+use Rattle.xfs_rename.specs.xfs_salvage.declared.found.Salvaged.{Salvaged}
 use Rattle.xfs_scan.specs.Evidence.{IsEvidence, dirs_seen, entries_seen, files_seen}
 use Rattle.xfs_scan.specs.declared.evidence.Evidence.{Evidence}
-use Rattle.xfs_slots.specs.Facts.{slot_facts}
-use Rattle.xfs_slots.specs.Gathered.{bare_inodes}
+use Rattle.xfs_scan.specs.xfs_slots.Facts.{slot_facts}
+use Rattle.xfs_scan.specs.xfs_slots.Gathered.{bare_inodes}
 use Rattle.xfs_mend.specs.Rebuilding.{IsGroundOf}
 
 -- the reserved blocks of all groups are their lists, one behind the other

@@ -20,17 +20,17 @@ use Rattle.xfs_place.specs.declared.wanted.Object.{Object}
 use Rattle.xfs_place.specs.declared.wanted.ObjectKind.TheVariants.{Directory}
 use Rattle.xfs_place.specs.declared.wanted.RunAsk.{RunAsk}
 use Rattle.xfs_place.specs.declared.wanted.Wanted.{Wanted}
-use Rattle.xfs_rebuild.specs.Names.{due_dirs, due_files}
-use Rattle.xfs_rebuild.specs.Rebuilds.{AreNamesDue, Ground, asked, slots_asked}
-use Rattle.xfs_rebuild.specs.declared.names_due.NamesDue.{NamesDue}
+use Rattle.xfs_rename.specs.xfs_rebuild.Names.{due_dirs, due_files}
+use Rattle.xfs_rename.specs.xfs_rebuild.Rebuilds.{AreNamesDue, Ground, asked, slots_asked}
+use Rattle.xfs_rename.specs.xfs_rebuild.declared.names_due.NamesDue.{NamesDue}
 use Rattle.xfs_rename.specs.Lost.{lost_due}
-use Rattle.xfs_changes.specs.Nodes.{nodes_of_files}
-use Rattle.xfs_built.specs.Asks.{asked_run, object_of, objects_of, stands_in_blocks}
+use Rattle.xfs_rename.specs.xfs_changes.Nodes.{nodes_of_files}
+use Rattle.xfs_rename.specs.xfs_built.Asks.{asked_run, object_of, objects_of, stands_in_blocks}
 use Rattle.xfs_rename.specs.Objects.{wanted_with}
 use Rattle.xfs_rename.specs.Renames.{AreBuilt, FindsNoRoomRenamed, renamed_wanted}
 use Rattle.xfs_rename.specs.Settled.{AreWanted}
-use Rattle.xfs_changes.specs.Rooms.{fork_rooms}
-use Rattle.xfs_changes.specs.declared.lost_found.Lost.{Lost}
+use Rattle.xfs_rename.specs.xfs_changes.Rooms.{fork_rooms}
+use Rattle.xfs_rename.specs.xfs_changes.declared.lost_found.Lost.{Lost}
 use Rattle.xfs_mend.proofs.OneGround.{one_without}
 use Rattle.xfs_mend.specs.Rebuilding.{IsRenamedDue, IsRenamedWithoutRoom}
 

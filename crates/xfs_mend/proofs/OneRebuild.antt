@@ -6,9 +6,9 @@ use Rattle.xfs_geom.specs.declared.geometry.Geometry.{Geometry}
 use Rattle.xfs_empty.specs.Planning.{HasRoom}
 use Rattle.xfs_place.specs.Wanted.{FindsNoRoom}
 use Rattle.xfs_place.specs.declared.faults.Unplaced.{Unplaced}
-use Rattle.xfs_rebuild.specs.Rebuilds.{Ground, asked, names_change, slots_asked}
-use Rattle.xfs_rebuild.specs.declared.names_due.NamesDue.{NamesDue}
-use Rattle.xfs_request.specs.Requests.{cleared_count, kept_count}
+use Rattle.xfs_rename.specs.xfs_rebuild.Rebuilds.{Ground, asked, names_change, slots_asked}
+use Rattle.xfs_rename.specs.xfs_rebuild.declared.names_due.NamesDue.{NamesDue}
+use Rattle.xfs_rename.specs.xfs_request.Requests.{cleared_count, kept_count}
 use Rattle.xfs_mend.proofs.OneGround.{never_both, one_ground, one_without}
 use Rattle.xfs_mend.proofs.OneNames.{names_are, names_of, never_wanting, one_cleared, one_kept, one_lost, one_wanting}
 use Rattle.xfs_mend.specs.Due.{uncounted}

@@ -7,7 +7,7 @@ use Rattle.xfs_geom.specs.declared.geometry.Geometry.{Geometry}
 use Rattle.xfs_laws.specs.Lawful.{broken_law}
 use Rattle.xfs_image.specs.Consistent.{IsConsistent}
 use Rattle.xfs_image.specs.Keeping.{Keeps, Protected}
-use Rattle.xfs_rebuild.specs.declared.planning.Rebuilt.{Rebuilt}
+use Rattle.xfs_rename.specs.xfs_rebuild.declared.planning.Rebuilt.{Rebuilt}
 use Rattle.xfs_restored.proofs.Relinked.{consistent_renamed, ground_found, kept_renamed, names_wanted}
 use Rattle.xfs_restored.specs.Relinking.{IsRelinked}
 use Rattle.xfs_rename.specs.declared.planning.Renamed.{Renamed}

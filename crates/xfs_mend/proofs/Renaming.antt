@@ -6,10 +6,10 @@ use Rattle.xfs_geom.specs.declared.geometry.Geometry.{Geometry}
 use Rattle.xfs_empty.proofs.Room.{has_room}
 use Rattle.xfs_scan.specs.Evidence.{IsEvidence}
 use Rattle.xfs_scan.specs.declared.evidence.Evidence.{Evidence}
-use Rattle.xfs_rebuild.specs.Refusals.{IsRefused}
-use Rattle.xfs_rebuild.specs.declared.faults.RebuildFault.TheVariants as faults
-use Rattle.xfs_rebuild.specs.declared.names_due.NamesDue.{NamesDue}
-use Rattle.xfs_rebuild.specs.declared.planning.Rebuilt.{Rebuilt}
+use Rattle.xfs_rename.specs.xfs_rebuild.Refusals.{IsRefused}
+use Rattle.xfs_rename.specs.xfs_rebuild.declared.faults.RebuildFault.TheVariants as faults
+use Rattle.xfs_rename.specs.xfs_rebuild.declared.names_due.NamesDue.{NamesDue}
+use Rattle.xfs_rename.specs.xfs_rebuild.declared.planning.Rebuilt.{Rebuilt}
 use Rattle.xfs_rename.specs.Renames.{renamed_wanted}
 use Rattle.xfs_mend.specs.Due.{IsOwed}
 use Rattle.xfs_mend.specs.Private.Rebuilds.{IsDueRenaming, IsRenamedPlan, LeavesOfRebuilt}

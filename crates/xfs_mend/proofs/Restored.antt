@@ -12,9 +12,9 @@ use Rattle.xfs_image.proofs.Backups.{only_backups}
 use Rattle.xfs_image.specs.Consistent.{HasBackupFault, IsConsistent, IsElected, finding}
 use Rattle.xfs_image.specs.declared.findings.Finding.{Finding}
 use Rattle.xfs_image.specs.declared.findings.Finding.TheVariants as Found
-use Rattle.xfs_views.specs.Backups.{DifferInBackups}
-use Rattle.xfs_views.proofs.ProtectedStay.{protected_stay}
-use Rattle.xfs_views.proofs.ViewsStay.{views_stay}
+use Rattle.xfs_restored.specs.xfs_views.Backups.{DifferInBackups}
+use Rattle.xfs_restored.proofs.xfs_views.ProtectedStay.{protected_stay}
+use Rattle.xfs_restored.proofs.xfs_views.ViewsStay.{views_stay}
 use Rattle.xfs_mend.proofs.Deciding.{is_elected}
 use Rattle.xfs_backups.proofs.Electing.{elected_primary}
 use Rattle.xfs_backups.proofs.Mending.{mended_agreeing, mended_block, mended_other}

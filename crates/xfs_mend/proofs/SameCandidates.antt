@@ -26,24 +26,24 @@ use Rattle.xfs_image.specs.Files.{inodes_of}
 use Rattle.xfs_image.specs.GroupParts.{IsGroupRead}
 use Rattle.xfs_image.specs.Groups.{head_block}
 use Rattle.xfs_image.specs.Slots.{cluster_blocks, cluster_inodes, reads_as}
-use Rattle.xfs_views.proofs.Addresses.{IsPlaced}
-use Rattle.xfs_views.proofs.Held.{HasGroup}
-use Rattle.xfs_views.proofs.Images.{candidate_has}
-use Rattle.xfs_views.proofs.Known.{candidate_known, inode_of_view}
-use Rattle.xfs_views.proofs.Lawful.{IsLawfulView}
-use Rattle.xfs_views.proofs.Members.{Member, all_members, filter_member, flat_member, map_member, member_row, row_member}
-use Rattle.xfs_views.proofs.Places.{file_inode, group_is, inode_reads}
-use Rattle.xfs_views.proofs.Trusted.{group_of}
-use Rattle.xfs_views.specs.Backups.{DifferInBackups}
-use Rattle.xfs_views.specs.SameFiles.{HasSameClaims, HasSameSlot}
-use Rattle.xfs_views.proofs.DirectoriesStay.{all_entries_stay}
-use Rattle.xfs_views.proofs.FilesStay.{file_stays, free_stays}
-use Rattle.xfs_views.proofs.GroupsStay.{group_kept}
-use Rattle.xfs_views.proofs.SlotsStay.{claims_same, slot_same, slot_stays}
-use Rattle.xfs_views.proofs.Unfixed.{headers_same, trees_same, unfixed_same}
-use Rattle.xfs_slots.specs.Gathered.{feature_if, first_feature}
+use Rattle.xfs_restored.proofs.xfs_views.Addresses.{IsPlaced}
+use Rattle.xfs_restored.proofs.xfs_views.Held.{HasGroup}
+use Rattle.xfs_restored.proofs.xfs_views.Images.{candidate_has}
+use Rattle.xfs_restored.proofs.xfs_views.Known.{candidate_known, inode_of_view}
+use Rattle.xfs_restored.proofs.xfs_views.Lawful.{IsLawfulView}
+use Rattle.xfs_restored.proofs.xfs_views.Members.{Member, all_members, filter_member, flat_member, map_member, member_row, row_member}
+use Rattle.xfs_restored.proofs.xfs_views.Places.{file_inode, group_is, inode_reads}
+use Rattle.xfs_restored.proofs.xfs_views.Trusted.{group_of}
+use Rattle.xfs_restored.specs.xfs_views.Backups.{DifferInBackups}
+use Rattle.xfs_restored.specs.xfs_views.SameFiles.{HasSameClaims, HasSameSlot}
+use Rattle.xfs_restored.proofs.xfs_views.DirectoriesStay.{all_entries_stay}
+use Rattle.xfs_restored.proofs.xfs_views.FilesStay.{file_stays, free_stays}
+use Rattle.xfs_restored.proofs.xfs_views.GroupsStay.{group_kept}
+use Rattle.xfs_restored.proofs.xfs_views.SlotsStay.{claims_same, slot_same, slot_stays}
+use Rattle.xfs_restored.proofs.xfs_views.Unfixed.{headers_same, trees_same, unfixed_same}
+use Rattle.xfs_scan.specs.xfs_slots.Gathered.{feature_if, first_feature}
 use Rattle.xfs_scan.specs.Refused.{feature_refused, refused, refused_late, unless_more}
-use Rattle.xfs_slots.specs.declared.inodes.InodeFeature.{InodeFeature}
+use Rattle.xfs_scan.specs.xfs_slots.declared.inodes.InodeFeature.{InodeFeature}
 
 -- lists by tests and functions that agree on what the lists have
 all_agree : {X : Type 0} (p q : X → Bool) (xs : List X) → ((x : X) → Member x xs → p x ≡ q x) → list_all p xs ≡ list_all q xs

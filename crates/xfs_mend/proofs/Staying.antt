@@ -19,8 +19,8 @@ use Rattle.xfs_laws.specs.Lawful.{broken_law, counting_laws}
 use Rattle.xfs_image.proofs.Views.{view_of}
 use Rattle.xfs_image.specs.Consistent.{IsConsistent}
 use Rattle.xfs_image.specs.View.{log_of}
-use Rattle.xfs_views.proofs.Lawful.{lawful_view}
-use Rattle.xfs_views.specs.Backups.{DifferInBackups}
+use Rattle.xfs_restored.proofs.xfs_views.Lawful.{lawful_view}
+use Rattle.xfs_restored.specs.xfs_views.Backups.{DifferInBackups}
 use Rattle.xfs_scan.specs.Refused.{refused}
 use Rattle.xfs_scan.specs.declared.faults.ScanFault.{ScanFault}
 use Rattle.xfs_mend.proofs.Answering.{consistent_answer, one_answer}

@@ -1,7 +1,7 @@
 -- What was written of a plan, where its rows are handed on as two slices.
 use Rattle.std.proofs.Common.{◌≡◌, ℕ, ◌≤◌, ◌+◌, ◌++◌, ◌⊎◌, inl, inr, false, List, length, Option, Some, refl, ap₂, ◌∙◌, subst}
 use Rattle.xfs_disk.specs.Blocks.{Image}
-use Rattle.xfs_rebuild.specs.declared.planning.Rebuilt.{Rebuilt}
+use Rattle.xfs_rename.specs.xfs_rebuild.declared.planning.Rebuilt.{Rebuilt}
 use Rattle.xfs_writing.specs.Stopped.{IsStopped}
 use Rattle.xfs_writing.specs.Writing.{IsPartly, Writes, written, writes_of_rows}
 use Rattle.xfs_writing.specs.declared.rows.Row.{Row}

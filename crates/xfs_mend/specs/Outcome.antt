@@ -12,7 +12,7 @@ use Rattle.xfs_laws.specs.Lawful.{broken_law}
 use Rattle.xfs_image.specs.Consistent.{HasFinding, IsConsistent, IsElected, backup_agrees}
 use Rattle.xfs_image.specs.Keeping.{Keeps, Protected}
 use Rattle.xfs_image.specs.declared.findings.Finding.TheVariants.{Part}
-use Rattle.xfs_rebuild.specs.declared.planning.Rebuilt.{Rebuilt}
+use Rattle.xfs_rename.specs.xfs_rebuild.declared.planning.Rebuilt.{Rebuilt}
 use Rattle.xfs_mend.specs.Asked.{Asked}
 use Rattle.xfs_backups.specs.Backups.{with_super, start_of, backup_plan}
 use Rattle.xfs_mend.specs.Due.{IsAnswer, IsDueRepair, IsOwed}

@@ -13,18 +13,18 @@ use Rattle.xfs_empty.specs.Planning.{HasRoom}
 use Rattle.xfs_place.specs.Wanted.{FindsNoRoom}
 use Rattle.xfs_place.specs.declared.faults.Unplaced.{Unplaced}
 use Rattle.xfs_place.specs.declared.faults.Unplaced.TheVariants.{LostFound}
-use Rattle.xfs_request.specs.Requests.{cleared_count, kept_count}
+use Rattle.xfs_rename.specs.xfs_request.Requests.{cleared_count, kept_count}
 use Rattle.xfs_scan.specs.Evidence.{IsEvidence}
 use Rattle.xfs_scan.specs.declared.evidence.Evidence.{Evidence}
 use Rattle.xfs_links.specs.Together.{orphans_of}
 use Rattle.xfs_names.specs.declared.building.BuiltDirectory.{BuiltDirectory}
 use Rattle.xfs_names.specs.declared.records.WantedNames.{WantedNames}
-use Rattle.xfs_rebuild.specs.Rebuilds.{AreNamesDue, Ground, IsGround, IsRebuildOf, asked, names_change, slots_asked}
-use Rattle.xfs_rebuild.specs.declared.names_due.NamesDue.{NamesDue}
+use Rattle.xfs_rename.specs.xfs_rebuild.Rebuilds.{AreNamesDue, Ground, IsGround, IsRebuildOf, asked, names_change, slots_asked}
+use Rattle.xfs_rename.specs.xfs_rebuild.declared.names_due.NamesDue.{NamesDue}
 use Rattle.xfs_rename.specs.Lost.{lost_due}
-use Rattle.xfs_changes.specs.Nodes.{nodes_of_files}
+use Rattle.xfs_rename.specs.xfs_changes.Nodes.{nodes_of_files}
 use Rattle.xfs_rename.specs.Renames.{AreBuilt, FindsNoRoomRenamed, IsRenamed, LacksCluster, cleared_beside, renamed_wanted}
-use Rattle.xfs_rebuild.specs.declared.planning.Rebuilt.{Rebuilt}
+use Rattle.xfs_rename.specs.xfs_rebuild.declared.planning.Rebuilt.{Rebuilt}
 use Rattle.xfs_restored.specs.Names.{HasKeptNames, HasWantedNames}
 use Rattle.xfs_writing.specs.Stopped.{IsStopped}
 use Rattle.xfs_writing.specs.Writing.{IsPartly, Writes, writes_of_rows}

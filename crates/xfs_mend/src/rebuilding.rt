@@ -6,7 +6,7 @@ ghost use Rattle.xfs_disk.specs.Blocks.{Image};
 ghost use Rattle.xfs_geom.specs.Volumes.{volume_of, stated_volume};
 ghost use Rattle.xfs_geom.specs.Writing.{IsAcceptedSector};
 ghost use Rattle.xfs_scan.specs.Evidence.{IsEvidence};
-ghost use Rattle.xfs_rebuild.specs.Rebuilds.{CanBeWritten, HasNamesDue};
+ghost use Rattle.xfs_rename.specs.xfs_rebuild.Rebuilds.{CanBeWritten, HasNamesDue};
 ghost use Rattle.xfs_mend.specs.Asked.{Asked};
 ghost use Rattle.xfs_mend.specs.Due.{CanCome, IsOwed};
 ghost use Rattle.xfs_mend.specs.Private.Ending.{Ends};
@@ -21,8 +21,7 @@ use std::thread::Threads;
 use xfs_collections::Steps;
 use xfs_disk::{Disk, Gate, Stamp};
 use xfs_geom::Elected;
-use xfs_rebuild::{BoxedNames, RebuildFault, Rebuilt, plan_rebuild};
-use xfs_rename::{Renamed, plan_names};
+use xfs_rename::{BoxedNames, RebuildFault, Rebuilt, Renamed, plan_names, plan_rebuild};
 use xfs_scan::Evidence;
 use xfs_writing::write_parts;
 

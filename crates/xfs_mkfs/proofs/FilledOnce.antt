@@ -15,16 +15,16 @@ use Rattle.xfs_render.specs.Rendering.{is_head}
 use Rattle.xfs_render.specs.declared.plan.Plan.{Plan}
 use Rattle.xfs_empty.specs.Bytes.{header_places}
 use Rattle.xfs_empty.specs.Geometry.{HasFirstChunk}
-use Rattle.xfs_made.proofs.OnceLists.{all_range, joined, range_once, rising_once}
-use Rattle.xfs_made.proofs.RowLists.{all_items}
+use Rattle.xfs_populated.proofs.xfs_made.OnceLists.{all_range, joined, range_once, rising_once}
+use Rattle.xfs_populated.proofs.xfs_made.RowLists.{all_items}
 use Rattle.xfs_proto.specs.declared.protofile.ProtoNode.{ProtoNode}
 use Rattle.xfs_filled.specs.Chunks.{chunk_at, chunk_starts}
 use Rattle.xfs_filled.specs.Planning.{IsFilledPlan}
 use Rattle.xfs_filled.specs.Wanting.{blocks_of_chunks, filled_bytes, filled_places, filled_wanted}
 use Rattle.xfs_filled.proofs.Rising.{Rise}
 use Rattle.xfs_filled.proofs.Starting.{IsChunkAt, are_chunks}
-use Rattle.xfs_made.proofs.PlansApart.{head_fixed, plans_apart}
-use Rattle.xfs_made.specs.Unused.{AreHeadsOrKept, IsHeadOrKept}
+use Rattle.xfs_populated.proofs.xfs_made.PlansApart.{head_fixed, plans_apart}
+use Rattle.xfs_populated.specs.xfs_made.Unused.{AreHeadsOrKept, IsHeadOrKept}
 
 -- the blocks of chunks that stand one behind the other
 clusters_from : (end least : ℕ) (xs : List ℕ) → Rise end least xs → All (λ n. least ≤ n) (blocks_of_chunks xs)

@@ -26,7 +26,7 @@ use Rattle.xfs_empty.specs.Placing.{chunk_run, empty_wanted}
 use Rattle.xfs_empty.specs.Geometry.{HasFirstChunk}
 use Rattle.xfs_filled.specs.Chunks.{chunk_starts}
 use Rattle.xfs_filled.specs.Wanting.{blocks_of_chunks, filled_bytes, filled_wanted}
-use Rattle.xfs_made.proofs.Once.{planned_once}
+use Rattle.xfs_populated.proofs.xfs_made.Once.{planned_once}
 use Rattle.xfs_writing.proofs.Steps.{written-append}
 use Rattle.xfs_writing.specs.Stopped.{IsStopped}
 use Rattle.xfs_writing.specs.Writing.{Writes, write_of, written, writes_of_rows}

@@ -8,8 +8,8 @@ use Rattle.xfs_geom.specs.declared.geometry.Geometry.{Geometry}
 use Rattle.xfs_render.specs.Plans.{HoldsPlan, IsOnce, planned}
 use Rattle.xfs_render.specs.declared.plan.Plan.{Plan}
 use Rattle.xfs_empty.specs.Geometry.{HasFirstChunk}
-use Rattle.xfs_made.proofs.Made.{volume_made}
-use Rattle.xfs_made.proofs.Once.{planned_once}
+use Rattle.xfs_populated.proofs.xfs_made.Made.{volume_made}
+use Rattle.xfs_populated.proofs.xfs_made.Once.{planned_once}
 use Rattle.xfs_populated.proofs.VolumesFilled.{volume_filled}
 use Rattle.xfs_writing.specs.Writing.{written}
 use Rattle.xfs_mkfs.proofs.FilledOnce.{filled_once}

@@ -16,7 +16,7 @@ use Rattle.xfs_sizing.specs.Supers.{IsNewSuper}
 use Rattle.xfs_empty.specs.Placing.{empty_wanted}
 use Rattle.xfs_empty.specs.Planning.{HasRoom, IsEmptyPlan}
 use Rattle.xfs_filled.specs.Planning.{HoldsFiles, IsFilledPlan, LacksRoom}
-use Rattle.xfs_made.specs.Volumes.{IsMadeVolume}
+use Rattle.xfs_populated.specs.xfs_made.Volumes.{IsMadeVolume}
 use Rattle.xfs_populated.specs.Volumes.{IsFilledVolume}
 use Rattle.xfs_mkfs.specs.Due.{IsGeometry, refusal}
 use Rattle.xfs_mkfs.specs.FilesAsked.{IsAsked, IsFilesRefusal}

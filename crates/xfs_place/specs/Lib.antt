@@ -12,3 +12,4 @@ pub mod Counts
 pub mod Standing
 pub mod Windows
 pub mod Kept
+pub use Rattle.xfs_kinds.specs as xfs_kinds

@@ -50,3 +50,4 @@ pub mod FileHeld
 pub mod FileBytes
 pub mod DirectoriesBuilt
 pub mod VolumesFilled
+pub use Rattle.xfs_made.proofs as xfs_made

@@ -4,7 +4,7 @@ use Rattle.std.proofs.lemmas.Bool.{eqb-false, eqb-true, le-ltb, ltb-false, ltb-t
 use Rattle.xfs_dirdata.specs.declared.records.EntryRec.{EntryRec}
 use Rattle.xfs_disk.specs.Lists.{is_among}
 use Rattle.xfs_naming.specs.Naming.{AreGrouped, AreNamed, NumbersAscend, is_in_use, numbers_of}
-use Rattle.xfs_views.proofs.Members.{Member}
+use Rattle.xfs_salvage.proofs.xfs_views.Members.{Member}
 use Rattle.xfs_volume.specs.Names.{is_directory}
 use Rattle.xfs_volume.specs.declared.directories.DirRec.{DirRec}
 use Rattle.xfs_volume.specs.declared.files.FileRec.{FileRec}

@@ -17,7 +17,7 @@ use Rattle.xfs_image.specs.Claims.{candidate_files}
 use Rattle.xfs_image.specs.Clusters.{root_cluster}
 use Rattle.xfs_image.specs.Slots.{cluster_blocks, cluster_inodes, inodes_of_block}
 use Rattle.xfs_naming.specs.Naming.{AreNamed, NumbersAscend, is_in_use, numbers_of}
-use Rattle.xfs_views.proofs.Members.{Member, any_member, filter_member, flat_member, map_member, member_any, member_flat, member_map, member_row}
+use Rattle.xfs_salvage.proofs.xfs_views.Members.{Member, any_member, filter_member, flat_member, map_member, member_any, member_flat, member_map, member_row}
 use Rattle.xfs_render.specs.declared.wanted_slots.SlotBase.TheVariants as Base
 use Rattle.xfs_render.specs.declared.wanted_slots.SlotWanted.{SlotWanted}
 use Rattle.xfs_space.proofs.FreeSpans.{group_short}

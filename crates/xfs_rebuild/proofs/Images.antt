@@ -17,8 +17,8 @@ use Rattle.xfs_inode.specs.Slots.{fork_bytes, slot_seal}
 use Rattle.xfs_inode.specs.declared.files.FileRead.{FileRead}
 use Rattle.xfs_inode.specs.declared.files.FileRead.TheVariants as Reads
 use Rattle.xfs_naming.specs.Naming.{NumbersAscend}
-use Rattle.xfs_slots.specs.Facts.{slot_fact, slot_facts}
-use Rattle.xfs_slots.specs.Gathered.{bare_if, bare_inodes}
+use Rattle.xfs_scan.specs.xfs_slots.Facts.{slot_fact, slot_facts}
+use Rattle.xfs_scan.specs.xfs_slots.Gathered.{bare_if, bare_inodes}
 use Rattle.xfs_rounds.specs.declared.facts.SlotFact.{SlotFact}
 use Rattle.xfs_requested.proofs.Inodes.{inodes_ascend}
 use Rattle.xfs_render.specs.Clusters.{slot_in}

@@ -11,8 +11,8 @@ use Rattle.xfs_image.specs.Candidates.{candidates}
 use Rattle.xfs_image.specs.Claims.{candidate_files}
 use Rattle.xfs_image.specs.Directories.{dirs_read, entries_read}
 use Rattle.xfs_naming.specs.Naming.{AreGrouped, AreNamed, NumbersAscend, is_directory_at, numbers_of}
-use Rattle.xfs_views.proofs.Members.{Member}
-use Rattle.xfs_views.proofs.Names.{each_directory, entries_grouped}
+use Rattle.xfs_salvage.proofs.xfs_views.Members.{Member}
+use Rattle.xfs_salvage.proofs.xfs_views.Names.{each_directory, entries_grouped}
 use Rattle.xfs_volume.specs.Names.{is_directory}
 use Rattle.xfs_volume.specs.declared.directories.DirRec.{DirRec}
 use Rattle.xfs_volume.specs.declared.files.FileRec.{FileRec}

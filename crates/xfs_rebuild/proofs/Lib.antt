@@ -17,3 +17,5 @@ mod Asked
 pub mod Known
 mod Added
 mod DueNames
+pub use Rattle.xfs_requested.proofs.xfs_made as xfs_made
+pub use Rattle.xfs_requested.proofs as xfs_requested

@@ -13,7 +13,7 @@ use Rattle.xfs_geom.specs.Volumes.{Volume}
 use Rattle.xfs_image.specs.Slots.{cluster_blocks, inodes_of_block}
 use Rattle.xfs_inode.specs.Slots.{fork_bytes, slot_seal}
 use Rattle.xfs_inodebuild.specs.declared.forks.ForkWanted.{ForkWanted}
-use Rattle.xfs_views.proofs.Members.{Member, flat_member}
+use Rattle.xfs_salvage.proofs.xfs_views.Members.{Member, flat_member}
 use Rattle.xfs_render.specs.Clusters.{CanCluster, slot_in}
 use Rattle.xfs_render.specs.Rendering.{is_head}
 use Rattle.xfs_render.specs.Slots.{CanBase, CanFork, CanMake, IsFreshCore, forkoff_of, wanted_of}

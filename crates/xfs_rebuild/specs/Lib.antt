@@ -9,3 +9,8 @@ pub mod Bytes
 pub mod Rebuilds
 pub mod Refusals
 pub mod Private
+pub use Rattle.xfs_scan.specs.xfs_slots as xfs_slots
+pub use Rattle.xfs_scan.specs as xfs_scan
+pub use Rattle.xfs_request.specs as xfs_request
+pub use Rattle.xfs_requested.specs.xfs_made as xfs_made
+pub use Rattle.xfs_requested.specs as xfs_requested

@@ -12,7 +12,7 @@ use Rattle.xfs_scan.specs.declared.evidence.Evidence.{Evidence}
 use Rattle.xfs_naming.specs.Naming.{AreNamed}
 use Rattle.xfs_salvage.specs.Claimable.{CanBeSalvaged}
 use Rattle.xfs_salvage.specs.declared.found.Salvaged.{Salvaged}
-use Rattle.xfs_empty.specs.Planning.{StandsFor}
+use Rattle.xfs_request.specs.xfs_empty.Planning.{StandsFor}
 use Rattle.xfs_place.specs.declared.placed.Placed.{Placed}
 use Rattle.xfs_place.specs.declared.wanted.Wanted.{Wanted}
 use Rattle.xfs_render.specs.Drafts.{AreInBank}

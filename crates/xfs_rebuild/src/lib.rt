@@ -34,3 +34,4 @@ pub use laws::{images_can_be_rebuilt, known_names_are_in_order};
 pub use names_due::{BoxedNames, NamesDue};
 pub use planning::{Rebuilt, plan_rebuild};
 pub use rendering::plan_placed;
+pub use xfs_request::{SlotSeen, inodes_wanted, taken_runs};

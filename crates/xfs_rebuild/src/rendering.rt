@@ -5,7 +5,7 @@ ghost use Rattle.std.specs.List.{All};
 ghost use Rattle.std.specs.Option.{ForSome};
 ghost use Rattle.xfs_disk.specs.Reads.{OnlyReads};
 ghost use Rattle.xfs_geom.specs.Volumes.{volume_of};
-ghost use Rattle.xfs_empty.specs.Planning.{StandsFor};
+ghost use Rattle.xfs_request.specs.xfs_empty.Planning.{StandsFor};
 ghost use Rattle.xfs_place.specs.Objects.{ServeAsks, asks_of};
 ghost use Rattle.xfs_place.specs.Wanted.{CanBeKept, kept_runs};
 ghost use Rattle.xfs_render.specs.Drafts.{AreInBank};

@@ -10,7 +10,7 @@ use Rattle.xfs_geom.specs.Volumes.{stated_volume, volume_of}
 use Rattle.xfs_geom.specs.Writing.{IsAcceptedSector}
 use Rattle.xfs_geom.specs.declared.geometry.Geometry.{Geometry}
 use Rattle.xfs_log.specs.xfs_heads.declared.log_state.LogState.{LogState}
-use Rattle.xfs_empty.specs.Planning.{StandsFor}
+use Rattle.xfs_changes.specs.xfs_empty.Planning.{StandsFor}
 use Rattle.xfs_naming.specs.Naming.{NumbersAscend}
 use Rattle.xfs_names.specs.declared.building.BuiltDirectory.{BuiltDirectory}
 use Rattle.xfs_place.specs.Objects.{ServeAsks, asks_of}
@@ -25,7 +25,7 @@ use Rattle.xfs_render.specs.Clusters.{CanCluster}
 use Rattle.xfs_render.specs.Readiness.{HasBytes, IsWritable}
 use Rattle.xfs_render.specs.declared.bytes.Bytes.{Bytes}
 use Rattle.xfs_render.specs.declared.wanted_slots.SlotWanted.{SlotWanted}
-use Rattle.xfs_request.specs.declared.seen.SlotSeen.{SlotSeen}
+use Rattle.xfs_rebuild.specs.xfs_request.declared.seen.SlotSeen.{SlotSeen}
 use Rattle.xfs_salvage.specs.declared.found.Salvaged.{Salvaged}
 use Rattle.xfs_volume.specs.declared.files.FileRec.{FileRec}
 use Rattle.xfs_rebuild.specs.Bytes.{AreAtHand, AreReadOf}
@@ -38,7 +38,7 @@ use Rattle.xfs_rebuild.specs.declared.names_due.NamesDue.{NamesDue}
 use Rattle.xfs_rebuild.specs.declared.planning.Rebuilt.{Rebuilt}
 use Rattle.xfs_changes.specs.Forks.{forks_of}
 use Rattle.xfs_rename.specs.Lost.{lost_due}
-use Rattle.xfs_built.specs.Asks.{blocks_of_built, objects_of}
+use Rattle.xfs_changes.specs.xfs_built.Asks.{blocks_of_built, objects_of}
 use Rattle.xfs_rename.specs.Objects.{wanted_with}
 use Rattle.xfs_rename.specs.Renames.{IsRenamed, IsRenameRefused, IsRoomFault, IsSettling, cleared_beside, lsns_due, old_files, placed_forks, renamed_slots, renamed_wanted}
 use Rattle.xfs_changes.specs.Rooms.{fork_rooms}

@@ -24,7 +24,7 @@ use Rattle.xfs_place.specs.declared.wanted.Object.{Object}
 use Rattle.xfs_place.specs.declared.wanted.RunAsk.{RunAsk}
 use Rattle.xfs_render.specs.Objects.{written_blocks, written_in}
 use Rattle.xfs_render.specs.Readiness.{HasAsker}
-use Rattle.xfs_built.specs.Asks.{asked_run, asks_for, blocks_of_built, object_of, objects_of, stands_in_blocks}
+use Rattle.xfs_changes.specs.xfs_built.Asks.{asked_run, asks_for, blocks_of_built, object_of, objects_of, stands_in_blocks}
 
 -- a run of a file in its data is one that can be asked for
 plain_data : (ino offset : ℕ) → ino < 2 ^ 32 → offset < 2 ^ 32 → is_file_data ino offset ≡ true

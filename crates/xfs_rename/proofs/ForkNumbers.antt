@@ -5,9 +5,9 @@ use Rattle.xfs_geom.specs.Volumes.{Volume}
 use Rattle.xfs_geom.specs.declared.records.Run.{Run}
 use Rattle.xfs_volume.specs.declared.files.FileRec.{FileRec}
 use Rattle.xfs_names.specs.declared.building.BuiltDirectory.{BuiltDirectory}
-use Rattle.xfs_request.specs.Slots.{StandByNumber}
+use Rattle.xfs_rebuild.specs.xfs_request.Slots.{StandByNumber}
 use Rattle.xfs_changes.specs.Forks.{attribute_blocks_at, extents_fork, fork_listed, forks_of, runs_in, short_fork}
-use Rattle.xfs_built.specs.Asks.{asks_for, stands_in_blocks}
+use Rattle.xfs_changes.specs.xfs_built.Asks.{asks_for, stands_in_blocks}
 use Rattle.xfs_changes.specs.declared.forks.DirectoryFork.{DirectoryFork}
 use Rattle.xfs_rename.proofs.Standing.{in_order, stands_from_none}
 

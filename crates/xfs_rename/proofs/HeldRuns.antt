@@ -9,7 +9,7 @@ use Rattle.xfs_geom.specs.Runs.{covers, runs_on}
 use Rattle.xfs_geom.specs.Volumes.{volume_of}
 use Rattle.xfs_geom.specs.declared.geometry.Geometry.{Geometry}
 use Rattle.xfs_geom.specs.declared.records.Run.{Run}
-use Rattle.xfs_requested.proofs.Claims.{cluster_claim}
+use Rattle.xfs_rebuild.proofs.xfs_requested.Claims.{cluster_claim}
 use Rattle.xfs_names.specs.declared.records.WantedNames.{WantedNames}
 use Rattle.xfs_place.specs.Choice.{one_if}
 use Rattle.xfs_place.specs.Claims.{IsClaimedRun}
@@ -18,9 +18,9 @@ use Rattle.xfs_place.specs.Wanted.{CanBeKept, IsOffFixed, kept_runs}
 use Rattle.xfs_place.specs.declared.wanted.Object.{Object}
 use Rattle.xfs_place.specs.declared.wanted.Wanted.{Wanted}
 use Rattle.xfs_place.proofs.Ordered.{on_first}
-use Rattle.xfs_views.proofs.Members.{Member, member_left}
+use Rattle.xfs_salvage.proofs.xfs_views.Members.{Member, member_left}
 use Rattle.xfs_render.specs.Readiness.{HasOwner}
-use Rattle.xfs_request.specs.Requests.{volume_wanted}
+use Rattle.xfs_rebuild.specs.xfs_request.Requests.{volume_wanted}
 use Rattle.xfs_salvage.specs.Kept.{run_of_cluster, taken_of}
 use Rattle.xfs_space.specs.Owners.{file_runs}
 use Rattle.xfs_rebuild.specs.Rebuilds.{HasNamesDue, slots_asked}

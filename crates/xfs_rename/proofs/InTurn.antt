@@ -14,7 +14,7 @@ use Rattle.xfs_naming.proofs.Order.{Rises, rises_by}
 use Rattle.xfs_names.specs.declared.building.BuiltDirectory.{BuiltDirectory}
 use Rattle.xfs_names.specs.declared.building.ForkRoom.{ForkRoom}
 use Rattle.xfs_place.specs.Pool.{is_taken}
-use Rattle.xfs_views.proofs.Members.{Member, member_any, member_map}
+use Rattle.xfs_salvage.proofs.xfs_views.Members.{Member, member_any, member_map}
 use Rattle.xfs_salvage.specs.Kept.{run_of_cluster}
 use Rattle.xfs_salvage.proofs.Ascending.{filtered}
 use Rattle.xfs_space.specs.Parts.{HasLawfulForks}

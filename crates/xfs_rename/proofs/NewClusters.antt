@@ -9,7 +9,7 @@ use Rattle.xfs_names.specs.declared.place.LostPlace.{LostPlace}
 use Rattle.xfs_names.specs.declared.place.LostPlace.TheVariants as place
 use Rattle.xfs_place.specs.Chunks.{asked_pool, asked_rooms, is_room, lies_in_chunks, rooms, rooms_below, rooms_of}
 use Rattle.xfs_place.specs.Pool.{is_listed, is_pool, is_taken, is_unspared}
-use Rattle.xfs_views.proofs.Members.{Member, filter_member, flat_member, map_member, member_row, row_member}
+use Rattle.xfs_salvage.proofs.xfs_views.Members.{Member, filter_member, flat_member, map_member, member_row, row_member}
 use Rattle.xfs_space.proofs.RecordedMaps.{group_inside}
 use Rattle.xfs_rebuild.specs.declared.names_due.NamesDue.{NamesDue}
 use Rattle.xfs_rename.specs.Lost.{added, added_for, cluster_ask, first_of, place_due, spared}

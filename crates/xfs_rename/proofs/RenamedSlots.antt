@@ -7,7 +7,7 @@ use Rattle.xfs_disk.specs.Blocks.{Image}
 use Rattle.xfs_disk.specs.declared.stamp.Stamp.{Stamp}
 use Rattle.xfs_geom.specs.Volumes.{Volume, volume_of}
 use Rattle.xfs_geom.specs.declared.geometry.Geometry.{Geometry}
-use Rattle.xfs_views.proofs.Members.{all_members, member_all}
+use Rattle.xfs_salvage.proofs.xfs_views.Members.{all_members, member_all}
 use Rattle.xfs_render.specs.Clusters.{CanCluster}
 use Rattle.xfs_render.specs.Rendering.{is_head}
 use Rattle.xfs_render.specs.Slots.{IsFreshCore}
@@ -15,7 +15,7 @@ use Rattle.xfs_render.specs.declared.wanted_slots.SlotBase.{SlotBase}
 use Rattle.xfs_render.specs.declared.wanted_slots.SlotBase.TheVariants as Base
 use Rattle.xfs_render.specs.declared.wanted_slots.SlotWanted.{SlotWanted}
 use Rattle.xfs_volume.specs.declared.files.FileRec.{FileRec}
-use Rattle.xfs_request.specs.Slots.{wanted_slots}
+use Rattle.xfs_rebuild.specs.xfs_request.Slots.{wanted_slots}
 use Rattle.xfs_rebuild.specs.Changes.{CanChangeAll}
 use Rattle.xfs_rebuild.specs.Rebuilds.{Ground, slots_asked}
 use Rattle.xfs_rebuild.specs.declared.names_due.NamesDue.{NamesDue}

@@ -10,7 +10,7 @@ use Rattle.xfs_naming.specs.Naming.{NumbersAscend}
 use Rattle.xfs_names.specs.declared.building.ForkRoom.{ForkRoom}
 use Rattle.xfs_place.specs.declared.wanted.GroupInodes.{GroupInodes}
 use Rattle.xfs_place.specs.declared.wanted.Object.{Object}
-use Rattle.xfs_request.specs.Chunks.{inodes_wanted}
+use Rattle.xfs_rebuild.specs.xfs_request.Chunks.{inodes_wanted}
 use Rattle.xfs_salvage.specs.Kept.{run_of_cluster, taken_of}
 use Rattle.xfs_salvage.specs.declared.found.Salvaged.{Salvaged}
 use Rattle.xfs_space.specs.Parts.{HasLawfulForks}
@@ -18,7 +18,7 @@ use Rattle.xfs_volume.specs.declared.files.FileRec.{FileRec}
 use Rattle.xfs_rebuild.specs.Rebuilds.{HasNamesDue}
 use Rattle.xfs_rebuild.specs.declared.names_due.NamesDue.{NamesDue}
 use Rattle.xfs_rebuild.proofs.Known.{known_files_ascend}
-use Rattle.xfs_built.specs.Asks.{objects_of}
+use Rattle.xfs_changes.specs.xfs_built.Asks.{objects_of}
 use Rattle.xfs_rename.specs.Objects.{asked_with, wanted_with, with_added}
 use Rattle.xfs_rename.specs.Renames.{IsSettling}
 use Rattle.xfs_rename.specs.Settled.{fresh_with, settled, staying_files, with_numbers}

@@ -1,7 +1,7 @@
 -- Records that stand by number.
 use Rattle.std.proofs.Common.{ℕ, zero, suc, ◌<◌, ◌≤◌, List, [], ◌∷◌, length, get_or, arith}
 use Rattle.std.specs.List.Sorted.{IsNonDecreasingBy}
-use Rattle.xfs_request.specs.Slots.{StandByNumber}
+use Rattle.xfs_rebuild.specs.xfs_request.Slots.{StandByNumber}
 
 -- each number is at least the least
 pub above : {A : Type 0} (n : A → ℕ) (low : ℕ) (xs : List A) → StandByNumber n low xs → (j : ℕ) (d : A) → j < length xs → low ≤ n (get_or xs j d)

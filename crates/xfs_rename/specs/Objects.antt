@@ -6,11 +6,11 @@ use Rattle.xfs_geom.specs.declared.records.Run.{Run}
 use Rattle.xfs_names.specs.declared.records.WantedNames.{WantedNames}
 use Rattle.xfs_place.specs.declared.wanted.Object.{Object}
 use Rattle.xfs_place.specs.declared.wanted.Wanted.{Wanted}
-use Rattle.xfs_request.specs.Chunks.{inodes_wanted}
+use Rattle.xfs_rebuild.specs.xfs_request.Chunks.{inodes_wanted}
 use Rattle.xfs_salvage.specs.Kept.{run_of_cluster, taken_of}
 use Rattle.xfs_salvage.specs.declared.found.Salvaged.{Salvaged}
 use Rattle.xfs_rebuild.specs.declared.names_due.NamesDue.{NamesDue}
-use Rattle.xfs_built.specs.Asks.{objects_of}
+use Rattle.xfs_changes.specs.xfs_built.Asks.{objects_of}
 use Rattle.xfs_changes.specs.Replaced.{replaced_blocks}
 use Rattle.xfs_rename.specs.Settled.{settled, staying_files, with_numbers}
 use Rattle.xfs_rename.specs.declared.settling.Settling.{Settling}

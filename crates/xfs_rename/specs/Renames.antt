@@ -6,7 +6,7 @@ use Rattle.xfs_disk.specs.Blocks.{Image}
 use Rattle.xfs_disk.specs.declared.stamp.Stamp.{Stamp}
 use Rattle.xfs_geom.specs.Volumes.{volume_of}
 use Rattle.xfs_geom.specs.declared.geometry.Geometry.{Geometry}
-use Rattle.xfs_empty.specs.Planning.{StandsFor}
+use Rattle.xfs_changes.specs.xfs_empty.Planning.{StandsFor}
 use Rattle.xfs_links.specs.Together.{orphans_of}
 use Rattle.xfs_naming.specs.Naming.{NumbersAscend}
 use Rattle.xfs_names.specs.Built.{CanBeBuilt, IsBuiltAsWanted}
@@ -22,9 +22,9 @@ use Rattle.xfs_place.specs.declared.wanted.Wanted.{Wanted}
 use Rattle.xfs_names.specs.declared.place.LostPlace.TheVariants.{Cluster}
 use Rattle.xfs_render.specs.declared.bytes.Bytes.{Bytes}
 use Rattle.xfs_render.specs.declared.wanted_slots.SlotWanted.{SlotWanted}
-use Rattle.xfs_request.specs.Cycles.{kept_lsns}
-use Rattle.xfs_request.specs.Requests.{is_freed}
-use Rattle.xfs_request.specs.declared.seen.SlotSeen.{SlotSeen}
+use Rattle.xfs_rebuild.specs.xfs_request.Cycles.{kept_lsns}
+use Rattle.xfs_rebuild.specs.xfs_request.Requests.{is_freed}
+use Rattle.xfs_rebuild.specs.xfs_request.declared.seen.SlotSeen.{SlotSeen}
 use Rattle.xfs_salvage.specs.declared.found.Salvaged.{Salvaged}
 use Rattle.xfs_rebuild.specs.Bytes.{AreAtHand, AreReadOf, file_lsns}
 use Rattle.xfs_rebuild.specs.Rebuilds.{HasNamesDue, IsRenderedLeft}
@@ -34,7 +34,7 @@ use Rattle.xfs_rebuild.specs.declared.names_due.NamesDue.{NamesDue}
 use Rattle.xfs_changes.specs.Forks.{forks_of}
 use Rattle.xfs_rename.specs.Lost.{cluster_found, lost_due, place_due}
 use Rattle.xfs_changes.specs.Nodes.{nodes_of_files}
-use Rattle.xfs_built.specs.Asks.{blocks_of_built, objects_of}
+use Rattle.xfs_changes.specs.xfs_built.Asks.{blocks_of_built, objects_of}
 use Rattle.xfs_rename.specs.Objects.{wanted_with}
 use Rattle.xfs_rename.specs.Settled.{AreWanted, settled, staying_files}
 use Rattle.xfs_changes.specs.Rooms.{fork_rooms}

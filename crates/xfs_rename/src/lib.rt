@@ -22,3 +22,4 @@ mod settling;
 mod wanting;
 
 pub use planning::{Renamed, plan_names};
+pub use xfs_rebuild::{BoxedNames, RebuildFault, Rebuilt, plan_rebuild};

@@ -11,3 +11,4 @@ pub mod Plans
 pub mod NewBlocks
 pub mod Rendering
 pub mod Readiness
+pub use Rattle.xfs_inodebuild.specs as xfs_inodebuild

@@ -4,11 +4,11 @@ use Rattle.xfs_word.specs.Crc.{little_field_of}
 use Rattle.xfs_word.specs.Field.{field_of, part_of, IsZero}
 use Rattle.xfs_word.specs.Seal.{is_lsn, is_sealed}
 use Rattle.xfs_geom.specs.Volumes.{Volume}
-use Rattle.xfs_inode.specs.Cores.{stated_core}
-use Rattle.xfs_inode.specs.Slots.{slot_read, slot_seal, fork_bytes}
+use Rattle.xfs_inodebuild.specs.xfs_inode.Cores.{stated_core}
+use Rattle.xfs_inodebuild.specs.xfs_inode.Slots.{slot_read, slot_seal, fork_bytes}
 use Rattle.xfs_inodebuild.specs.Writing.{KeepsOthers, field_place, free_core}
 use Rattle.xfs_inodebuild.specs.declared.forks.ForkWanted.{ForkWanted}
-use Rattle.xfs_inode.specs.declared.reading.SlotRead.TheVariants as Read
+use Rattle.xfs_inodebuild.specs.xfs_inode.declared.reading.SlotRead.TheVariants as Read
 use Rattle.xfs_volume.specs.declared.cores.Core.{Core}
 use Rattle.xfs_render.specs.declared.wanted_slots.SlotBase.{SlotBase}
 use Rattle.xfs_render.specs.declared.wanted_slots.SlotBase.TheVariants as Base

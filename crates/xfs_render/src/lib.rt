@@ -38,3 +38,4 @@ pub use plan::Plan;
 pub use readiness::{chunks_are_few, placed_is_ready};
 pub use rendering::render;
 pub use wanted_slots::{SlotBase, SlotWanted};
+pub use xfs_inodebuild::ForkWanted;

@@ -4,7 +4,7 @@ ghost use Rattle.std.specs.Prelude.{◌≡◌, ℕ, ◌≤◌, ◌<◌, ◌+◌,
 ghost use Rattle.xfs_word.specs.Field.{field_of};
 ghost use Rattle.xfs_word.specs.Seal.{is_sealed};
 ghost use Rattle.xfs_geom.specs.Volumes.{volume_of};
-ghost use Rattle.xfs_inode.specs.Slots.{slot_seal};
+ghost use Rattle.xfs_inodebuild.specs.xfs_inode.Slots.{slot_seal};
 ghost use Rattle.xfs_render.specs.Slots.{CanBase, CanFork, CanMake, DropsAttrs, IsBased, IsMadeSlot, SetsFork, SetsLinks, forkoff_of};
 
 use crate::wanted_slots::{SlotBase, SlotWanted};

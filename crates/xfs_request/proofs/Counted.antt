@@ -2,7 +2,7 @@
 use Rattle.std.proofs.Common.{◌≡◌, ℕ}
 use Rattle.xfs_geom.specs.Volumes.{Volume}
 use Rattle.xfs_geom.specs.declared.records.InoRec.{InoRec}
-use Rattle.xfs_laws.specs.Counting.{bits_below, count_below}
+use Rattle.xfs_salvage.specs.xfs_laws.Counting.{bits_below, count_below}
 use Rattle.xfs_salvage.specs.declared.found.Salvaged.{Salvaged}
 use Rattle.xfs_request.specs.Chunks.{counted_chunk, is_idle, slot_count}
 

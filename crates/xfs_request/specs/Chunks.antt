@@ -6,7 +6,7 @@ use Rattle.xfs_geom.specs.Conversions.{group_length}
 use Rattle.xfs_geom.specs.Volumes.{Volume}
 use Rattle.xfs_geom.specs.declared.records.InoRec.{InoRec}
 use Rattle.xfs_kinds.specs.InodeTrees.{is_missing}
-use Rattle.xfs_laws.specs.Counting.{bits_below, count_below, inode_number}
+use Rattle.xfs_salvage.specs.xfs_laws.Counting.{bits_below, count_below, inode_number}
 use Rattle.xfs_naming.specs.Naming.{is_in_use}
 use Rattle.xfs_place.specs.declared.wanted.GroupInodes.{GroupInodes}
 use Rattle.xfs_salvage.specs.declared.found.Salvaged.{Salvaged}

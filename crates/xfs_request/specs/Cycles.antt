@@ -5,8 +5,8 @@ use Rattle.xfs_disk.specs.Lists.{is_among}
 use Rattle.xfs_geom.specs.Volumes.{Volume}
 use Rattle.xfs_log.specs.xfs_heads.declared.log_state.LogState.{LogState}
 use Rattle.xfs_log.specs.xfs_heads.declared.log_state.LogState.TheVariants.{Clean, Dirty}
-use Rattle.xfs_image.specs.Clusters.{cluster_of}
-use Rattle.xfs_laws.specs.Counting.{is_behind}
+use Rattle.xfs_salvage.specs.xfs_image.Clusters.{cluster_of}
+use Rattle.xfs_salvage.specs.xfs_laws.Counting.{is_behind}
 use Rattle.xfs_naming.specs.Naming.{is_in_use}
 use Rattle.xfs_salvage.specs.declared.found.Salvaged.{Salvaged}
 use Rattle.xfs_request.specs.Slots.{is_free}

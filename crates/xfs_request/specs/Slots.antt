@@ -10,7 +10,7 @@ use Rattle.xfs_dirdata.specs.declared.records.EntryRec.{EntryRec}
 use Rattle.xfs_geom.specs.Volumes.{Volume}
 use Rattle.xfs_volume.specs.Names.{is_directory}
 use Rattle.xfs_volume.specs.declared.files.FileRec.{FileRec}
-use Rattle.xfs_image.specs.Slots.{cluster_blocks, inodes_of_block}
+use Rattle.xfs_salvage.specs.xfs_image.Slots.{cluster_blocks, inodes_of_block}
 use Rattle.xfs_naming.specs.Naming.{entries_in, entries_to, is_system, links_of, numbers_of}
 use Rattle.xfs_naming.specs.Ordered.{AreLinks}
 use Rattle.xfs_naming.specs.declared.runs.Link.{Link}

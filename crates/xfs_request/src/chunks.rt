@@ -5,7 +5,7 @@ ghost use Rattle.std.specs.List.Sorted.{IsNonDecreasingBy};
 ghost use Rattle.xfs_geom.specs.Volumes.{volume_of};
 ghost use Rattle.xfs_naming.specs.Naming.{NumbersAscend};
 ghost use Rattle.xfs_volume.specs.declared.files.FileRec.{FileRec};
-ghost use Rattle.xfs_laws.specs.Counting.{bit_of, inode_number};
+ghost use Rattle.xfs_salvage.specs.xfs_laws.Counting.{bit_of, inode_number};
 ghost use Rattle.xfs_request.specs.Chunks.{chunk_listed, kept_chunk, counted_chunk, kept_chunks, has_kept_cluster, holes, is_idle, is_inode_used, slot_count, inodes_wanted};
 ghost use Rattle.xfs_request.specs.Slots.{AreNumbers};
 

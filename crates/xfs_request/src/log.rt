@@ -5,7 +5,7 @@ ghost use Rattle.std.specs.List.{list_all};
 ghost use Rattle.std.specs.List.Sorted.{IsNonDecreasingBy};
 ghost use Rattle.xfs_disk.specs.Lists.{is_among};
 ghost use Rattle.xfs_geom.specs.Volumes.{volume_of};
-ghost use Rattle.xfs_laws.specs.Counting.{is_behind};
+ghost use Rattle.xfs_salvage.specs.xfs_laws.Counting.{is_behind};
 ghost use Rattle.xfs_naming.specs.Naming.{NumbersAscend};
 ghost use Rattle.xfs_volume.specs.declared.files.FileRec.{FileRec};
 ghost use Rattle.xfs_request.specs.Cycles.{cycle_of, due_cycle, greatest_cycle, keeps_lsn, kept_lsns, keeps_log, lsn_listed};

@@ -39,12 +39,12 @@ use Rattle.xfs_image.specs.Clusters.{root_cluster}
 use Rattle.xfs_image.specs.Slots.{reads_as, slot_bytes}
 use Rattle.xfs_image.proofs.Ascending.{candidates_ascend}
 use Rattle.xfs_image.proofs.Roots.{root_candidate, root_recorded}
-use Rattle.xfs_views.proofs.Files.{file_is, file_sound}
-use Rattle.xfs_views.proofs.Addresses.{root_placed}
-use Rattle.xfs_views.proofs.Images.{candidate_member, candidate_placed}
-use Rattle.xfs_views.proofs.Members.{Member, all_members, member_any}
-use Rattle.xfs_salvage.specs.Claimable.{AscendClaiming, AscendWithin, CanBeSalvaged, CanClaim}
-use Rattle.xfs_salvage.proofs.Conditions.{apart_from_once, runs_are}
+use Rattle.xfs_made.proofs.xfs_views.Files.{file_is, file_sound}
+use Rattle.xfs_made.proofs.xfs_views.Addresses.{root_placed}
+use Rattle.xfs_made.proofs.xfs_views.Images.{candidate_member, candidate_placed}
+use Rattle.xfs_made.proofs.xfs_views.Members.{Member, all_members, member_any}
+use Rattle.xfs_request.specs.xfs_salvage.Claimable.{AscendClaiming, AscendWithin, CanBeSalvaged, CanClaim}
+use Rattle.xfs_request.proofs.xfs_salvage.Conditions.{apart_from_once, runs_are}
 use Rattle.xfs_requested.proofs.Inodes.{inodes_ascend, inodes_small}
 use Rattle.xfs_requested.proofs.KeptTaken.{at_most, spans_count}
 use Rattle.xfs_requested.proofs.Tallies.{spans_on, spans_once}

@@ -13,12 +13,12 @@ use Rattle.xfs_geom.specs.declared.geometry.Geometry.{Geometry}
 use Rattle.xfs_image.specs.Candidates.{can_hold_inodes, candidates, is_candidate, is_scanned, lies_in_chunk}
 use Rattle.xfs_image.specs.Claims.{candidate_files}
 use Rattle.xfs_image.specs.Clusters.{is_recorded, root_cluster}
-use Rattle.xfs_views.proofs.Addresses.{IsPlaced}
-use Rattle.xfs_views.proofs.Images.{candidate_is, candidate_placed}
-use Rattle.xfs_views.proofs.Members.{Member, all_members}
+use Rattle.xfs_made.proofs.xfs_views.Addresses.{IsPlaced}
+use Rattle.xfs_made.proofs.xfs_views.Images.{candidate_is, candidate_placed}
+use Rattle.xfs_made.proofs.xfs_views.Members.{Member, all_members}
 use Rattle.xfs_space.proofs.FreeSpans.{group_short}
 use Rattle.xfs_volume.specs.declared.clusters.ClusterRec.{ClusterRec}
-use Rattle.xfs_salvage.specs.Kept.{kept_clusters}
+use Rattle.xfs_request.specs.xfs_salvage.Kept.{kept_clusters}
 use Rattle.xfs_requested.proofs.Candidates.{image_can}
 use Rattle.xfs_requested.proofs.Roots.{root_is}
 use Rattle.xfs_requested.proofs.Spaced.{each_kept}

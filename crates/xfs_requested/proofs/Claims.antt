@@ -14,8 +14,8 @@ use Rattle.xfs_space.specs.Private.Places.{IsPlacedExtent}
 use Rattle.xfs_space.proofs.Lawful.{placed}
 use Rattle.xfs_space.proofs.RecordedMaps.{group_inside}
 use Rattle.xfs_place.specs.Claims.{IsClaimedRun}
-use Rattle.xfs_salvage.specs.Claimable.{CanClaim}
-use Rattle.xfs_salvage.specs.Kept.{run_of_cluster}
+use Rattle.xfs_request.specs.xfs_salvage.Claimable.{CanClaim}
+use Rattle.xfs_request.specs.xfs_salvage.Kept.{run_of_cluster}
 
 -- a cluster
 pub cluster_claim : (top block : ℕ) → block + 4 ≤ top → IsClaimedRun top (run_of_cluster block)

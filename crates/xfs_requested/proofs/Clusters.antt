@@ -15,11 +15,11 @@ use Rattle.xfs_kinds.specs.Owners.{clusters_owner}
 use Rattle.xfs_claims.proofs.Ordered.{Ascend, same_list}
 use Rattle.xfs_naming.specs.Naming.{NumbersAscend}
 use Rattle.xfs_place.specs.Wanted.{inodes_in_group}
-use Rattle.xfs_views.proofs.Members.{Member, all_members, flat_member, member_all, member_any, member_either, member_flat, member_left, member_right, member_row}
+use Rattle.xfs_made.proofs.xfs_views.Members.{Member, all_members, flat_member, member_all, member_any, member_either, member_flat, member_left, member_right, member_row}
 use Rattle.xfs_space.specs.Owners.{cluster_run, cluster_runs, clusters_of_chunk, new_run}
 use Rattle.xfs_space.proofs.FreeSpans.{group_short}
-use Rattle.xfs_salvage.specs.Kept.{run_of_cluster}
-use Rattle.xfs_salvage.specs.declared.found.Salvaged.{Salvaged}
+use Rattle.xfs_request.specs.xfs_salvage.Kept.{run_of_cluster}
+use Rattle.xfs_request.specs.xfs_salvage.declared.found.Salvaged.{Salvaged}
 use Rattle.xfs_made.specs.Keeping.{all_clusters}
 use Rattle.xfs_request.specs.Chunks.{chunk_listed, has_chunk, has_kept_cluster, holes, kept_chunk, kept_chunks}
 use Rattle.xfs_request.specs.Requests.{volume_wanted}

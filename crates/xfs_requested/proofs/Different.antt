@@ -12,7 +12,7 @@ use Rattle.xfs_claims.specs.Keeping.{Holding, fixed_alone, kept_of, with_cluster
 use Rattle.xfs_claims.specs.Ranks.{AreDifferent, by_number, first_block, claimed_number, is_other_recorded, is_recorded_cluster, is_scanned_cluster, lies_in_recorded, lies_in_scanned, own_number, placed_by_number, recorded_clusters, recorded_files, scanned_clusters, scanned_files}
 use Rattle.xfs_claims.specs.Spans.{spans_of}
 use Rattle.xfs_claims.proofs.Ordered.{filter_differ, map_differ}
-use Rattle.xfs_views.proofs.Members.{Member, any_member, filter_member, map_member, member_any}
+use Rattle.xfs_made.proofs.xfs_views.Members.{Member, any_member, filter_member, map_member, member_any}
 use Rattle.xfs_requested.specs.Ranked.{AreKeptByRank, Claimant, is_held, ranked}
 use Rattle.xfs_requested.specs.Ranked.Claimant.{Cluster, File}
 use Rattle.xfs_requested.proofs.Steps.{AreFresh, AreTold, fresh_then, kept_by_rank, same, steps, steps_clusters, steps_files, steps_then}

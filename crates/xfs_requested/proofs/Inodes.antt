@@ -17,8 +17,8 @@ use Rattle.xfs_image.specs.Candidates.{candidates}
 use Rattle.xfs_image.specs.Claims.{candidate_inodes}
 use Rattle.xfs_image.specs.Slots.{cluster_blocks, cluster_inodes, inodes_of_block}
 use Rattle.xfs_image.proofs.Ascending.{candidates_ascend}
-use Rattle.xfs_views.proofs.Images.{candidate_placed}
-use Rattle.xfs_views.proofs.Members.{Member, all_members, flat_member, map_member, row_member}
+use Rattle.xfs_made.proofs.xfs_views.Images.{candidate_placed}
+use Rattle.xfs_made.proofs.xfs_views.Members.{Member, all_members, flat_member, map_member, row_member}
 
 lower : (low high : ℕ) (ns : List ℕ) → low ≤ high → NumbersAscend high ns → NumbersAscend low ns
 lower low high [] le up = tt

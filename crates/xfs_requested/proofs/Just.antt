@@ -14,8 +14,8 @@ use Rattle.xfs_naming.specs.Naming.{NumbersAscend}
 use Rattle.xfs_place.specs.Wanted.{kept_runs}
 use Rattle.xfs_space.specs.Owners.{file_runs}
 use Rattle.xfs_volume.specs.declared.files.FileRec.{FileRec}
-use Rattle.xfs_salvage.specs.Kept.{run_of_cluster, taken_of}
-use Rattle.xfs_salvage.specs.declared.found.Salvaged.{Salvaged}
+use Rattle.xfs_request.specs.xfs_salvage.Kept.{run_of_cluster, taken_of}
+use Rattle.xfs_request.specs.xfs_salvage.declared.found.Salvaged.{Salvaged}
 use Rattle.xfs_requested.proofs.Ordered.{clusters_of_volume_ascend}
 use Rattle.xfs_requested.proofs.Candidates.{image_can}
 use Rattle.xfs_made.specs.Keeping.{KeepsJust, all_used}

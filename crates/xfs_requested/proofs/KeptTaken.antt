@@ -26,14 +26,14 @@ use Rattle.xfs_place.specs.Choice.{one_if}
 use Rattle.xfs_place.specs.Claims.{IsClaimedRun}
 use Rattle.xfs_place.specs.Wanted.{CanBeKept, IsOffFixed}
 use Rattle.xfs_place.proofs.Ordered.{on_first}
-use Rattle.xfs_views.specs.Claimed.{claims_in, file_claim}
+use Rattle.xfs_made.specs.xfs_views.Claimed.{claims_in, file_claim}
 use Rattle.xfs_kinds.specs.FixedRuns.{fixed_runs, header_run, log_run}
-use Rattle.xfs_views.proofs.Claimed.{spans_are}
-use Rattle.xfs_views.proofs.Counted.{member_on}
-use Rattle.xfs_views.proofs.Members.{Member, all_members, any_member, filter_member, flat_member, map_member, member_all, member_any, member_either, member_map, member_row}
-use Rattle.xfs_salvage.specs.Claimable.{AscendClaiming, AscendWithin, CanBeSalvaged, CanClaim}
-use Rattle.xfs_salvage.specs.Kept.{run_of_cluster, claims_held, kept_clusters, kept_files, is_kept_file, taken_in}
-use Rattle.xfs_salvage.proofs.Conditions.{files_differ}
+use Rattle.xfs_made.proofs.xfs_views.Claimed.{spans_are}
+use Rattle.xfs_made.proofs.xfs_views.Counted.{member_on}
+use Rattle.xfs_made.proofs.xfs_views.Members.{Member, all_members, any_member, filter_member, flat_member, map_member, member_all, member_any, member_either, member_map, member_row}
+use Rattle.xfs_request.specs.xfs_salvage.Claimable.{AscendClaiming, AscendWithin, CanBeSalvaged, CanClaim}
+use Rattle.xfs_request.specs.xfs_salvage.Kept.{run_of_cluster, claims_held, kept_clusters, kept_files, is_kept_file, taken_in}
+use Rattle.xfs_request.proofs.xfs_salvage.Conditions.{files_differ}
 use Rattle.xfs_requested.proofs.Claims.{cluster_claim, file_claims}
 use Rattle.xfs_requested.proofs.Tallies.{Tallies, clusters_on, files_on, kept_tallies, part_of, spans_on}
 

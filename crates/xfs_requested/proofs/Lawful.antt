@@ -9,11 +9,11 @@ use Rattle.xfs_geom.specs.Volumes.{Volume, volume_of}
 use Rattle.xfs_geom.specs.declared.geometry.Geometry.{Geometry}
 use Rattle.xfs_geom.specs.declared.records.InoRec.{InoRec}
 use Rattle.xfs_kinds.specs.InodeTrees.{are_free_of_use, ascends_inode, ino_shape, is_block_free_of_use, is_chunk, is_holemask, is_missing}
-use Rattle.xfs_laws.specs.Counting.{bits_below, count_below}
-use Rattle.xfs_laws.proofs.Bits.{bits_small, count_small}
+use Rattle.xfs_made.specs.xfs_laws.Counting.{bits_below, count_below}
+use Rattle.xfs_made.proofs.xfs_laws.Bits.{bits_small, count_small}
 use Rattle.xfs_space.proofs.RecordedMaps.{group_inside}
 use Rattle.xfs_tree.specs.Rules.{are_lawful}
-use Rattle.xfs_salvage.specs.declared.found.Salvaged.{Salvaged}
+use Rattle.xfs_request.specs.xfs_salvage.declared.found.Salvaged.{Salvaged}
 use Rattle.xfs_request.specs.Chunks.{chunk_listed, has_chunk, has_kept_cluster, holes, is_idle, kept_chunk, kept_chunks, slot_count}
 
 -- the mask of a chunk that has a half

@@ -18,3 +18,4 @@ pub mod Clusters
 pub mod Just
 mod Passing
 pub mod Makeable
+pub use Rattle.xfs_made.proofs as xfs_made

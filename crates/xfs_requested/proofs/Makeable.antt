@@ -23,18 +23,18 @@ use Rattle.xfs_inode.specs.Slots.{slot_read, slot_seal, unsupported, used_read}
 use Rattle.xfs_inode.specs.declared.files.FileRead.{FileRead}
 use Rattle.xfs_inode.specs.declared.files.FileRead.TheVariants as Reads
 use Rattle.xfs_inode.specs.declared.reading.SlotRead.TheVariants as Read
-use Rattle.xfs_views.proofs.Members.{Member, filter_member, flat_member}
-use Rattle.xfs_render.specs.Clusters.{CanCluster, slot_in}
-use Rattle.xfs_render.specs.Slots.{CanMake, IsFreshCore, wanted_of}
-use Rattle.xfs_render.specs.declared.wanted_slots.SlotBase.TheVariants as Base
-use Rattle.xfs_render.specs.declared.wanted_slots.SlotWanted.{SlotWanted}
+use Rattle.xfs_made.proofs.xfs_views.Members.{Member, filter_member, flat_member}
+use Rattle.xfs_made.specs.xfs_render.Clusters.{CanCluster, slot_in}
+use Rattle.xfs_made.specs.xfs_render.Slots.{CanMake, IsFreshCore, wanted_of}
+use Rattle.xfs_made.specs.xfs_render.declared.wanted_slots.SlotBase.TheVariants as Base
+use Rattle.xfs_made.specs.xfs_render.declared.wanted_slots.SlotWanted.{SlotWanted}
 use Rattle.xfs_tree.specs.Reading.{Contents}
-use Rattle.xfs_views.proofs.FileTests.{core_says}
-use Rattle.xfs_views.proofs.Files.{file_sound}
+use Rattle.xfs_made.proofs.xfs_views.FileTests.{core_says}
+use Rattle.xfs_made.proofs.xfs_views.Files.{file_sound}
 use Rattle.xfs_volume.specs.declared.cores.Core.{Core}
 use Rattle.xfs_volume.specs.declared.files.FileRec.{FileRec}
-use Rattle.xfs_salvage.specs.Kept.{is_kept_file, kept_files}
-use Rattle.xfs_salvage.specs.declared.found.Salvaged.{Salvaged}
+use Rattle.xfs_request.specs.xfs_salvage.Kept.{is_kept_file, kept_files}
+use Rattle.xfs_request.specs.xfs_salvage.declared.found.Salvaged.{Salvaged}
 use Rattle.xfs_requested.proofs.Candidates.{bare_sound}
 use Rattle.xfs_request.specs.Fresh.{new_slot, new_root_core, new_root_slot, new_system_core, new_system_slot}
 use Rattle.xfs_request.specs.Slots.{as_list, attrs_wanted, bare_slot, block_slots, cluster_slots, freed_slot, is_free, kept_slot, links_due, nlink_wanted, slot_listed, slot_of, slot_wanted, state_at, wanted_slots}

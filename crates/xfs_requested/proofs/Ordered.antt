@@ -14,10 +14,10 @@ use Rattle.xfs_claims.specs.declared.claimants.FileClaim.{FileClaim}
 use Rattle.xfs_claims.specs.Keeping.{Holding, cluster_span, fixed_alone, is_kept, kept_of, with_cluster, with_clusters, with_file, with_files}
 use Rattle.xfs_claims.specs.Ranks.{recorded_clusters, recorded_files, scanned_clusters, scanned_files}
 use Rattle.xfs_claims.specs.Spans.{spans_of, with_blocks}
-use Rattle.xfs_views.specs.Claimed.{claims_in}
-use Rattle.xfs_salvage.specs.Claimable.{AscendClaiming, CanBeSalvaged}
-use Rattle.xfs_salvage.specs.Kept.{claims_held, kept_clusters, kept_files, is_kept_file}
-use Rattle.xfs_salvage.proofs.Ascending.{claiming_ascend, filtered, with_ascends}
+use Rattle.xfs_made.specs.xfs_views.Claimed.{claims_in}
+use Rattle.xfs_request.specs.xfs_salvage.Claimable.{AscendClaiming, CanBeSalvaged}
+use Rattle.xfs_request.specs.xfs_salvage.Kept.{claims_held, kept_clusters, kept_files, is_kept_file}
+use Rattle.xfs_request.proofs.xfs_salvage.Ascending.{claiming_ascend, filtered, with_ascends}
 
 -- clusters, one after the other
 cluster_ascends : (held : Holding) (block : ℕ) → NumbersAscend 0 held.clusters → NumbersAscend 0 (with_cluster held block).clusters

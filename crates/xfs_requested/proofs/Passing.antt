@@ -10,13 +10,13 @@ use Rattle.xfs_image.specs.Candidates.{candidates}
 use Rattle.xfs_image.specs.Claims.{candidate_files, candidate_inodes}
 use Rattle.xfs_image.specs.Directories.{dirs_read, entries_read}
 use Rattle.xfs_naming.specs.Naming.{AreGrouped, NumbersAscend, numbers_of}
-use Rattle.xfs_views.proofs.Names.{each_directory, entries_grouped}
+use Rattle.xfs_made.proofs.xfs_views.Names.{each_directory, entries_grouped}
 use Rattle.xfs_volume.specs.Names.{is_directory}
 use Rattle.xfs_volume.specs.declared.clusters.ClusterRec.{ClusterRec}
 use Rattle.xfs_volume.specs.declared.directories.DirRec.{DirRec}
 use Rattle.xfs_volume.specs.declared.files.FileRec.{FileRec}
-use Rattle.xfs_salvage.specs.Claimable.{AscendClaiming, CanBeSalvaged}
-use Rattle.xfs_salvage.specs.Kept.{entries_of_kept, kept_clusters}
+use Rattle.xfs_request.specs.xfs_salvage.Claimable.{AscendClaiming, CanBeSalvaged}
+use Rattle.xfs_request.specs.xfs_salvage.Kept.{entries_of_kept, kept_clusters}
 use Rattle.xfs_requested.proofs.Candidates.{image_can}
 use Rattle.xfs_requested.proofs.Inodes.{inodes_ascend}
 use Rattle.xfs_requested.proofs.KeptTaken.{end_by}

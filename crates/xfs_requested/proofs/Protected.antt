@@ -15,13 +15,13 @@ use Rattle.xfs_image.specs.Claims.{candidate_files, candidate_inodes, file_if}
 use Rattle.xfs_image.specs.Clusters.{cluster_of}
 use Rattle.xfs_image.specs.Keeping.{Protected}
 use Rattle.xfs_image.specs.Slots.{reads_as}
-use Rattle.xfs_views.proofs.Files.{file_sound}
-use Rattle.xfs_views.specs.Claimed.{claims_in, image_claims}
-use Rattle.xfs_views.specs.Standing.{stands}
-use Rattle.xfs_views.proofs.Images.{protected_kept}
-use Rattle.xfs_views.proofs.Members.{Member, any_member, member_filter, member_flat}
-use Rattle.xfs_views.proofs.Taken.{protected_stands}
-use Rattle.xfs_salvage.specs.Kept.{claims_held, kept_clusters, kept_files, is_kept_file}
+use Rattle.xfs_made.proofs.xfs_views.Files.{file_sound}
+use Rattle.xfs_made.specs.xfs_views.Claimed.{claims_in, image_claims}
+use Rattle.xfs_made.specs.xfs_views.Standing.{stands}
+use Rattle.xfs_made.proofs.xfs_views.Images.{protected_kept}
+use Rattle.xfs_made.proofs.xfs_views.Members.{Member, any_member, member_filter, member_flat}
+use Rattle.xfs_made.proofs.xfs_views.Taken.{protected_stands}
+use Rattle.xfs_request.specs.xfs_salvage.Kept.{claims_held, kept_clusters, kept_files, is_kept_file}
 
 -- what is held of the claims of an image
 held_is : (v : Volume) (image : Image) → claims_held v (candidates v image) (candidate_files v image) ≡ kept_of (image_claims v image)

@@ -26,13 +26,13 @@ use Rattle.xfs_place.specs.Wanted.{CanBeKept}
 use Rattle.xfs_place.proofs.AllClaims.{all_apart, is_volume}
 use Rattle.xfs_place.proofs.KeptRun.{kept_alone}
 use Rattle.xfs_place.proofs.Ordered.{on_first}
-use Rattle.xfs_views.specs.Claimed.{claims_in}
+use Rattle.xfs_made.specs.xfs_views.Claimed.{claims_in}
 use Rattle.xfs_kinds.specs.FixedRuns.{fixed_runs}
-use Rattle.xfs_views.proofs.Addresses.{addresses_of}
-use Rattle.xfs_views.proofs.Claimed.{spans_are}
-use Rattle.xfs_views.proofs.Counted.{any_on}
-use Rattle.xfs_views.proofs.Kept.{clusters_stay, clusters_stay_on}
-use Rattle.xfs_salvage.specs.Kept.{run_of_cluster, claims_held, kept_clusters}
+use Rattle.xfs_made.proofs.xfs_views.Addresses.{addresses_of}
+use Rattle.xfs_made.proofs.xfs_views.Claimed.{spans_are}
+use Rattle.xfs_made.proofs.xfs_views.Counted.{any_on}
+use Rattle.xfs_made.proofs.xfs_views.Kept.{clusters_stay, clusters_stay_on}
+use Rattle.xfs_request.specs.xfs_salvage.Kept.{run_of_cluster, claims_held, kept_clusters}
 use Rattle.xfs_requested.proofs.Claims.{cluster_claim}
 
 -- where the cluster of the root stands in its group

@@ -13,15 +13,15 @@ use Rattle.xfs_image.specs.Slots.{cluster_blocks, cluster_inodes, inodes_of_bloc
 use Rattle.xfs_claims.specs.Ranks.{first_block}
 use Rattle.xfs_naming.specs.Naming.{NumbersAscend}
 use Rattle.xfs_naming.proofs.Order.{Rises, rises_by}
-use Rattle.xfs_views.proofs.Members.{Member, all_members, filter_member, member_map}
-use Rattle.xfs_views.specs.Claimed.{claims_in}
-use Rattle.xfs_render.specs.declared.wanted_slots.SlotBase.TheVariants as Base
-use Rattle.xfs_render.specs.declared.wanted_slots.SlotWanted.{SlotWanted}
+use Rattle.xfs_made.proofs.xfs_views.Members.{Member, all_members, filter_member, member_map}
+use Rattle.xfs_made.specs.xfs_views.Claimed.{claims_in}
+use Rattle.xfs_made.specs.xfs_render.declared.wanted_slots.SlotBase.TheVariants as Base
+use Rattle.xfs_made.specs.xfs_render.declared.wanted_slots.SlotWanted.{SlotWanted}
 use Rattle.xfs_volume.specs.declared.clusters.ClusterRec.{ClusterRec}
 use Rattle.xfs_volume.specs.declared.files.FileRec.{FileRec}
-use Rattle.xfs_salvage.specs.Claimable.{AscendWithin, CanBeSalvaged}
-use Rattle.xfs_salvage.specs.Kept.{claims_held, kept_clusters}
-use Rattle.xfs_salvage.specs.declared.found.Salvaged.{Salvaged}
+use Rattle.xfs_request.specs.xfs_salvage.Claimable.{AscendWithin, CanBeSalvaged}
+use Rattle.xfs_request.specs.xfs_salvage.Kept.{claims_held, kept_clusters}
+use Rattle.xfs_request.specs.xfs_salvage.declared.found.Salvaged.{Salvaged}
 use Rattle.xfs_requested.proofs.Ordered.{clusters_of_volume_ascend}
 use Rattle.xfs_requested.proofs.Inodes.{blocks_then, first_in, later_block}
 use Rattle.xfs_requested.proofs.KeptTaken.{kept_all}

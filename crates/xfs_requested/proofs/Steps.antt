@@ -10,7 +10,7 @@ use Rattle.xfs_claims.specs.declared.claimants.FileClaim.{FileClaim}
 use Rattle.xfs_claims.specs.Keeping.{Holding, cluster_span, fixed_alone, is_kept, with_cluster, with_clusters, with_file, with_files}
 use Rattle.xfs_claims.specs.Spans.{meets_any, spans_of, with_blocks}
 use Rattle.xfs_claims.proofs.Numbers.{among_more}
-use Rattle.xfs_views.proofs.Members.{Member}
+use Rattle.xfs_made.proofs.xfs_views.Members.{Member}
 use Rattle.xfs_requested.specs.Ranked.{AreKeptByRank, Claimant, is_cluster_at, is_held, is_kept_block, lies_in_kept, spans_claimed}
 use Rattle.xfs_requested.specs.Ranked.Claimant.{Cluster, File}
 

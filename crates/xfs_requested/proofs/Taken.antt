@@ -19,12 +19,12 @@ use Rattle.xfs_space.specs.Private.Places.{IsPlacedExtent}
 use Rattle.xfs_space.proofs.Lawful.{placed}
 use Rattle.xfs_place.specs.Pool.{is_taken}
 use Rattle.xfs_place.specs.Wanted.{IsOffFixed, kept_runs}
-use Rattle.xfs_views.proofs.Members.{Member, all_members, any_member, filter_member, flat_member, map_member, member_all, member_any, member_either, member_left, member_map}
-use Rattle.xfs_render.specs.Readiness.{HasOwner}
+use Rattle.xfs_made.proofs.xfs_views.Members.{Member, all_members, any_member, filter_member, flat_member, map_member, member_all, member_any, member_either, member_left, member_map}
+use Rattle.xfs_made.specs.xfs_render.Readiness.{HasOwner}
 use Rattle.xfs_tree.specs.Rules.{is_of_root_cluster}
-use Rattle.xfs_salvage.specs.Claimable.{CanBeSalvaged, CanClaim}
-use Rattle.xfs_salvage.specs.Kept.{is_kept_file, kept_clusters, kept_files, run_of_cluster, taken_in, taken_of}
-use Rattle.xfs_salvage.specs.declared.found.Salvaged.{Salvaged}
+use Rattle.xfs_request.specs.xfs_salvage.Claimable.{CanBeSalvaged, CanClaim}
+use Rattle.xfs_request.specs.xfs_salvage.Kept.{is_kept_file, kept_clusters, kept_files, run_of_cluster, taken_in, taken_of}
+use Rattle.xfs_request.specs.xfs_salvage.declared.found.Salvaged.{Salvaged}
 use Rattle.xfs_requested.proofs.Roots.{root_kept}
 use Rattle.xfs_requested.proofs.KeptTaken.{are_kept, each_can}
 use Rattle.xfs_request.specs.Requests.{volume_wanted}

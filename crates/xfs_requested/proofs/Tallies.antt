@@ -14,8 +14,8 @@ use Rattle.xfs_claims.specs.Spans.{SpansApart, spans_apart, meets_any, spans_of,
 use Rattle.xfs_claims.proofs.Numbers.{among_more}
 use Rattle.xfs_claims.proofs.Ordered.{to_order}
 use Rattle.xfs_place.specs.Choice.{one_if}
-use Rattle.xfs_views.proofs.Apart.{run_apart}
-use Rattle.xfs_views.proofs.Members.{Member, all_members, filter_member, member_all, member_any}
+use Rattle.xfs_made.proofs.xfs_views.Apart.{run_apart}
+use Rattle.xfs_made.proofs.xfs_views.Members.{Member, all_members, filter_member, member_all, member_any}
 
 -- how many of some clusters, of some runs, and of the runs of the files whose numbers pass a test have a block
 abbrev pub clusters_on : List ℕ → ℕ → ℕ

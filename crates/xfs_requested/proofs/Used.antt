@@ -9,11 +9,11 @@ use Rattle.xfs_geom.specs.Volumes.{Volume, volume_of}
 use Rattle.xfs_geom.specs.declared.geometry.Geometry.{Geometry}
 use Rattle.xfs_geom.specs.declared.records.InoRec.{InoRec}
 use Rattle.xfs_kinds.specs.InodeTrees.{ino_shape, is_missing, missing_bits, settled_chunk}
-use Rattle.xfs_laws.specs.Counting.{bits_below, chunk_number, count_below, due_chunk, inode_number, is_unused, is_used}
+use Rattle.xfs_made.specs.xfs_laws.Counting.{bits_below, chunk_number, count_below, due_chunk, inode_number, is_unused, is_used}
 use Rattle.xfs_place.specs.Wanted.{inodes_in_group}
-use Rattle.xfs_views.proofs.Members.{Member, all_members, flat_member}
+use Rattle.xfs_made.proofs.xfs_views.Members.{Member, all_members, flat_member}
 use Rattle.xfs_volume.specs.declared.files.FileRec.{FileRec}
-use Rattle.xfs_salvage.specs.declared.found.Salvaged.{Salvaged}
+use Rattle.xfs_request.specs.xfs_salvage.declared.found.Salvaged.{Salvaged}
 use Rattle.xfs_request.specs.Chunks.{chunk_listed, has_chunk, has_kept_cluster, holes, is_idle, is_inode_used, kept_chunk, kept_chunks, slot_count}
 use Rattle.xfs_request.specs.Requests.{volume_wanted}
 use Rattle.xfs_requested.proofs.Writable.{inodes_are}

@@ -13,10 +13,10 @@ use Rattle.xfs_volume.specs.declared.files.FileRec.{FileRec}
 use Rattle.xfs_place.specs.Pool.{is_taken}
 use Rattle.xfs_place.specs.Wanted.{CanBeKept, inodes_in_group, kept_runs}
 use Rattle.xfs_place.specs.declared.wanted.GroupInodes.{GroupInodes}
-use Rattle.xfs_render.specs.Readiness.{HasOwner, IsWritable}
+use Rattle.xfs_made.specs.xfs_render.Readiness.{HasOwner, IsWritable}
 use Rattle.xfs_tree.specs.Rules.{are_lawful}
-use Rattle.xfs_salvage.specs.Claimable.{CanBeSalvaged}
-use Rattle.xfs_salvage.specs.declared.found.Salvaged.{Salvaged}
+use Rattle.xfs_request.specs.xfs_salvage.Claimable.{CanBeSalvaged}
+use Rattle.xfs_request.specs.xfs_salvage.declared.found.Salvaged.{Salvaged}
 use Rattle.xfs_requested.proofs.KeptTaken.{are_kept}
 use Rattle.xfs_request.specs.Chunks.{group_asked, inodes_wanted, kept_chunks}
 use Rattle.xfs_request.specs.Requests.{volume_wanted}

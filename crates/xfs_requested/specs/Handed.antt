@@ -3,8 +3,8 @@ use Rattle.std.specs.Prelude.{◌≡◌, List}
 use Rattle.xfs_geom.specs.Volumes.{Volume}
 use Rattle.xfs_volume.specs.declared.clusters.ClusterRec.{ClusterRec}
 use Rattle.xfs_volume.specs.declared.files.FileRec.{FileRec}
-use Rattle.xfs_salvage.specs.Kept.{fresh_inodes, kept_clusters, kept_files}
-use Rattle.xfs_salvage.specs.declared.found.Salvaged.{Salvaged}
+use Rattle.xfs_request.specs.xfs_salvage.Kept.{fresh_inodes, kept_clusters, kept_files}
+use Rattle.xfs_request.specs.xfs_salvage.declared.found.Salvaged.{Salvaged}
 
 -- it is what is kept of these clusters and files
 pub record IsKeptOf (v : Volume) (clusters : List ClusterRec) (files : List FileRec) (kept : Salvaged) : Type 0 where

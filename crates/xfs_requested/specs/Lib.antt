@@ -1,2 +1,3 @@
 pub mod Ranked
 pub mod Handed
+pub use Rattle.xfs_made.specs as xfs_made

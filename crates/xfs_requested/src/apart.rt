@@ -6,8 +6,8 @@ ghost use Rattle.xfs_geom.specs.declared.geometry.Geometry.{Geometry};
 ghost use Rattle.xfs_volume.specs.declared.clusters.ClusterRec.{ClusterRec};
 ghost use Rattle.xfs_volume.specs.declared.files.FileRec.{FileRec};
 ghost use Rattle.xfs_place.specs.Wanted.{CanBeKept};
-ghost use Rattle.xfs_salvage.specs.Claimable.{CanBeSalvaged};
-ghost use Rattle.xfs_salvage.specs.Kept.{taken_in};
+ghost use Rattle.xfs_request.specs.xfs_salvage.Claimable.{CanBeSalvaged};
+ghost use Rattle.xfs_request.specs.xfs_salvage.Kept.{taken_in};
 
 /// The runs of the kept clusters and files are blocks of the volume, with owners as a lawful owner record has them; none
 /// of them has a fixed use, and none is of two of the runs.

@@ -7,8 +7,8 @@ ghost use Rattle.xfs_volume.specs.declared.clusters.ClusterRec.{ClusterRec};
 ghost use Rattle.xfs_volume.specs.declared.files.FileRec.{FileRec};
 ghost use Rattle.xfs_naming.specs.Naming.{NumbersAscend, numbers_of};
 ghost use Rattle.xfs_space.specs.Parts.{HasLawfulForks};
-ghost use Rattle.xfs_salvage.specs.Claimable.{CanBeSalvaged};
-ghost use Rattle.xfs_salvage.specs.Kept.{kept_clusters, kept_files};
+ghost use Rattle.xfs_request.specs.xfs_salvage.Claimable.{CanBeSalvaged};
+ghost use Rattle.xfs_request.specs.xfs_salvage.Kept.{kept_clusters, kept_files};
 
 /// The kept clusters ascend by block and the kept files by number, and the extents of each kept file lie in the volume: so what
 /// is kept can be handed to whoever asks what the volume then needs.

@@ -5,7 +5,7 @@ ghost use Rattle.xfs_geom.specs.Volumes.{volume_of};
 ghost use Rattle.xfs_geom.specs.declared.geometry.Geometry.{Geometry};
 ghost use Rattle.xfs_image.specs.Candidates.{candidates};
 ghost use Rattle.xfs_image.specs.Claims.{candidate_files};
-ghost use Rattle.xfs_salvage.specs.Claimable.{CanBeSalvaged};
+ghost use Rattle.xfs_request.specs.xfs_salvage.Claimable.{CanBeSalvaged};
 
 /// The candidate clusters and files of any image, which are those of its evidence, can claim their blocks.
 pub fn candidates_can_be_kept()

@@ -9,7 +9,7 @@ ghost use Rattle.xfs_geom.specs.declared.geometry.Geometry.{Geometry};
 ghost use Rattle.xfs_image.specs.Candidates.{candidates};
 ghost use Rattle.xfs_image.specs.Claims.{candidate_files, candidate_inodes};
 ghost use Rattle.xfs_image.specs.Directories.{entries_read};
-ghost use Rattle.xfs_salvage.specs.Kept.{entries_of_kept, kept_clusters};
+ghost use Rattle.xfs_request.specs.xfs_salvage.Kept.{entries_of_kept, kept_clusters};
 ghost use Rattle.xfs_request.specs.Slots.{StandByNumber};
 ghost use Rattle.xfs_request.specs.declared.seen.SlotSeen.{SlotSeen};
 

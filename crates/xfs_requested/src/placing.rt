@@ -6,8 +6,8 @@ ghost use Rattle.xfs_geom.specs.declared.geometry.Geometry.{Geometry};
 ghost use Rattle.xfs_volume.specs.declared.clusters.ClusterRec.{ClusterRec};
 ghost use Rattle.xfs_volume.specs.declared.files.FileRec.{FileRec};
 ghost use Rattle.xfs_place.specs.Wanted.{CanBeKept, kept_runs};
-ghost use Rattle.xfs_salvage.specs.Claimable.{CanBeSalvaged};
-ghost use Rattle.xfs_salvage.specs.declared.found.Salvaged.{Salvaged};
+ghost use Rattle.xfs_request.specs.xfs_salvage.Claimable.{CanBeSalvaged};
+ghost use Rattle.xfs_request.specs.xfs_salvage.declared.found.Salvaged.{Salvaged};
 ghost use Rattle.xfs_request.specs.Requests.{volume_wanted};
 ghost use Rattle.xfs_requested.specs.Handed.{IsKeptOf};
 

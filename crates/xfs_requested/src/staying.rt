@@ -12,7 +12,7 @@ ghost use Rattle.xfs_image.specs.Candidates.{candidates};
 ghost use Rattle.xfs_image.specs.Claims.{candidate_files};
 ghost use Rattle.xfs_image.specs.Clusters.{cluster_of, root_cluster};
 ghost use Rattle.xfs_image.specs.Keeping.{Protected};
-ghost use Rattle.xfs_salvage.specs.Kept.{kept_clusters, kept_files};
+ghost use Rattle.xfs_request.specs.xfs_salvage.Kept.{kept_clusters, kept_files};
 
 /// A protected file of an image is one of the files that are kept of its candidates, as it is, and its cluster is one of the
 /// kept ones.

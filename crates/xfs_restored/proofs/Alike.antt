@@ -9,18 +9,18 @@ use Rattle.xfs_geom.specs.Volumes.{Volume, volume_of}
 use Rattle.xfs_geom.specs.declared.geometry.Geometry.{Geometry}
 use Rattle.xfs_claims.specs.Ranks.{placed_by_number}
 use Rattle.xfs_claims.proofs.Ordered.{Ascend, same_list}
-use Rattle.xfs_requested.proofs.Inodes.{first_in}
+use Rattle.xfs_rename.proofs.xfs_requested.Inodes.{first_in}
 use Rattle.xfs_naming.specs.Naming.{NumbersAscend, is_in_use}
 use Rattle.xfs_views.proofs.Members.{Member, all_members, any_member, filter_member, member_all, member_any, member_filter}
 use Rattle.xfs_volume.specs.declared.directories.DirRec.{DirRec}
 use Rattle.xfs_volume.specs.declared.files.FileRec.{FileRec}
 use Rattle.xfs_render.specs.declared.wanted_slots.SlotWanted.{SlotWanted}
 use Rattle.xfs_salvage.specs.declared.found.Salvaged.{Salvaged}
-use Rattle.xfs_request.specs.Fresh.{new_slot, new_root_core, new_root_slot, new_system_core, new_system_slot}
-use Rattle.xfs_request.specs.Slots.{as_list, attrs_wanted, bare_slot, freed_slot, is_free, kept_slot, links_due, nlink_wanted, slot_listed, slot_of, slot_wanted, state_at, wanted_slots}
-use Rattle.xfs_request.specs.declared.seen.SlotSeen.{SlotSeen}
-use Rattle.xfs_rebuild.specs.Names as Names
-use Rattle.xfs_rebuild.specs.Names.{linked_file, linked_files, made_files, made_of, with_dir, with_made_file, with_made_files}
+use Rattle.xfs_rename.specs.xfs_request.Fresh.{new_slot, new_root_core, new_root_slot, new_system_core, new_system_slot}
+use Rattle.xfs_rename.specs.xfs_request.Slots.{as_list, attrs_wanted, bare_slot, freed_slot, is_free, kept_slot, links_due, nlink_wanted, slot_listed, slot_of, slot_wanted, state_at, wanted_slots}
+use Rattle.xfs_rename.specs.xfs_request.declared.seen.SlotSeen.{SlotSeen}
+use Rattle.xfs_rename.specs.xfs_rebuild.Names as Names
+use Rattle.xfs_rename.specs.xfs_rebuild.Names.{linked_file, linked_files, made_files, made_of, with_dir, with_made_file, with_made_files}
 use Rattle.xfs_restored.specs.DueFiles as DueFiles
 use Rattle.xfs_restored.specs.DueFiles.{due_file, fresh_file, fresh_root, kept_inodes, new_core, with_new}
 use Rattle.xfs_restored.specs.Kept.{HasKept}

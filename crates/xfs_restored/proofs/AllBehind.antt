@@ -11,7 +11,7 @@ use Rattle.xfs_log.specs.xfs_heads.declared.log_state.LogState.TheVariants.{Clea
 use Rattle.xfs_image.specs.Files.{clusters_of}
 use Rattle.xfs_image.specs.Lsns.{LsnPlace, at, cluster_places, dir_byte, extent_places, file_places, groups_places, lsn_at, lsn_places, lsn_places_in_order, lsns_read}
 use Rattle.xfs_laws.specs.Counting.{by_group, group_chains, head_of, is_behind, log_at, log_laws, lsn_law}
-use Rattle.xfs_made.proofs.KeptLaws.{both_kept}
+use Rattle.xfs_rename.proofs.xfs_made.KeptLaws.{both_kept}
 use Rattle.xfs_views.proofs.Members.{Member, all_members, flat_member, map_member, member_all, member_either, member_right}
 use Rattle.xfs_volume.specs.Laws.{AreKept}
 use Rattle.xfs_volume.specs.Names.{type_of}
@@ -19,9 +19,9 @@ use Rattle.xfs_volume.specs.declared.catalogs.BlockLsn.{BlockLsn}
 use Rattle.xfs_volume.specs.declared.files.FileRec.{FileRec}
 use Rattle.xfs_volume.specs.declared.groups.GroupRec.{GroupRec}
 use Rattle.xfs_salvage.specs.declared.found.Salvaged.{Salvaged}
-use Rattle.xfs_request.specs.Cycles.{kept_lsns, lsn_listed}
-use Rattle.xfs_request.specs.declared.seen.SlotSeen.{SlotSeen}
-use Rattle.xfs_rebuild.specs.Bytes.{file_lsns}
+use Rattle.xfs_rename.specs.xfs_request.Cycles.{kept_lsns, lsn_listed}
+use Rattle.xfs_rename.specs.xfs_request.declared.seen.SlotSeen.{SlotSeen}
+use Rattle.xfs_rename.specs.xfs_rebuild.Bytes.{file_lsns}
 use Rattle.xfs_restored.specs.DueFiles.{due_file, fresh_file, rebuilt_files}
 use Rattle.xfs_restored.specs.Kept.{HasKept}
 use Rattle.xfs_restored.specs.Logs.{IsLogDue, numbers_kept}

@@ -11,10 +11,10 @@ use Rattle.xfs_volume.specs.declared.files.FileRec.{FileRec}
 use Rattle.xfs_render.specs.Slots.{IsMadeSlot, SetsFork, SetsLinks}
 use Rattle.xfs_render.specs.declared.wanted_slots.SlotBase.TheVariants.{Kept}
 use Rattle.xfs_render.specs.declared.wanted_slots.SlotWanted.{SlotWanted}
-use Rattle.xfs_changes.specs.Forks.{attribute_blocks_at, extents_fork, short_fork}
-use Rattle.xfs_built.specs.Extents.{extent_of_run}
-use Rattle.xfs_built.specs.Asks.{stands_in_blocks}
-use Rattle.xfs_built.specs.Directories.{BuiltRuns, IsBuiltFile, IsFileOf, IsShortFileOf}
+use Rattle.xfs_rename.specs.xfs_changes.Forks.{attribute_blocks_at, extents_fork, short_fork}
+use Rattle.xfs_rename.specs.xfs_built.Extents.{extent_of_run}
+use Rattle.xfs_rename.specs.xfs_built.Asks.{stands_in_blocks}
+use Rattle.xfs_rename.specs.xfs_built.Directories.{BuiltRuns, IsBuiltFile, IsFileOf, IsShortFileOf}
 use Rattle.xfs_restored.specs.RunForks.{fork_of_runs}
 use Rattle.xfs_restored.specs.Relinking.{with_built}
 use Rattle.xfs_restored.proofs.WantedCases.{kept_change}

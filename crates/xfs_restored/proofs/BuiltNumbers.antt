@@ -13,10 +13,10 @@ use Rattle.xfs_names.specs.declared.building.BuiltDirectory.{BuiltDirectory}
 use Rattle.xfs_names.specs.declared.building.ForkRoom.{ForkRoom}
 use Rattle.xfs_names.specs.declared.records.WantedNames.{WantedNames}
 use Rattle.xfs_views.proofs.Members.{Member}
-use Rattle.xfs_built.specs.Directories.{HasOwnCounts, StandsIn}
-use Rattle.xfs_built.specs.Extents.{extent_of_run}
-use Rattle.xfs_built.proofs.BuiltNumbers.{built_zero}
-use Rattle.xfs_built.proofs.Sized.{own_are_few, own_writable}
+use Rattle.xfs_rename.specs.xfs_built.Directories.{HasOwnCounts, StandsIn}
+use Rattle.xfs_rename.specs.xfs_built.Extents.{extent_of_run}
+use Rattle.xfs_rename.proofs.xfs_built.BuiltNumbers.{built_zero}
+use Rattle.xfs_rename.proofs.xfs_built.Sized.{own_are_few, own_writable}
 
 module _ (v : Volume) (image : Image) (some : 1 ≤ v.agblocks) (enough : v.agblocks ≤ 2 ^ v.agblklog) where
   pub wanted_zero : (w : WantedNames) (rooms : List ForkRoom) (b : BuiltDirectory) (runs : List Run) → CanBeBuilt w → IsBuiltAsWanted w rooms b → HasOwnCounts b → StandsIn v image b runs

@@ -13,13 +13,13 @@ use Rattle.xfs_names.specs.declared.building.BuiltDirectory.{BuiltDirectory}
 use Rattle.xfs_names.specs.declared.building.ForkRoom.{ForkRoom}
 use Rattle.xfs_views.proofs.Members.{Member, member_all}
 use Rattle.xfs_volume.specs.declared.files.FileRec.{FileRec}
-use Rattle.xfs_rebuild.specs.declared.names_due.NamesDue.{NamesDue}
+use Rattle.xfs_rename.specs.xfs_rebuild.declared.names_due.NamesDue.{NamesDue}
 use Rattle.xfs_restored.specs.Rewriting.{IsRewritten}
-use Rattle.xfs_built.specs.Asks.{stands_in_blocks}
+use Rattle.xfs_rename.specs.xfs_built.Asks.{stands_in_blocks}
 use Rattle.xfs_rename.specs.Renames.{IsRenamed}
-use Rattle.xfs_changes.specs.Rooms.{fork_rooms, has_attributes_behind, room_before_attributes}
+use Rattle.xfs_rename.specs.xfs_changes.Rooms.{fork_rooms, has_attributes_behind, room_before_attributes}
 use Rattle.xfs_rename.specs.declared.planning.Renamed.{Renamed}
-use Rattle.xfs_built.specs.Directories.{BuiltRuns, HasOwnCounts, asks_of_built, built_runs, runs_of_built, with_runs}
+use Rattle.xfs_rename.specs.xfs_built.Directories.{BuiltRuns, HasOwnCounts, asks_of_built, built_runs, runs_of_built, with_runs}
 use Rattle.xfs_restored.specs.Reading.{HasFileExtents}
 use Rattle.xfs_restored.specs.Renamed.{HoldsBuilt}
 use Rattle.xfs_restored.proofs.HeldPlans.{renamed_holds}

@@ -23,7 +23,7 @@ use Rattle.xfs_inode.specs.declared.reading.SlotRead.TheVariants as Read
 use Rattle.xfs_inodebuild.specs.Writing.{IsBesideEach, field_place}
 use Rattle.xfs_render.specs.Slots.{DropsAttrs, SetsLinks}
 use Rattle.xfs_word.specs.Seal.{is_sealed}
-use Rattle.xfs_request.specs.Slots.{own_blocks}
+use Rattle.xfs_rename.specs.xfs_request.Slots.{own_blocks}
 use Rattle.xfs_restored.specs.DueFiles.{linked_core, plain_core}
 use Rattle.xfs_restored.proofs.Forks.{HasSameFork, data_same, device_same, place_same, target_same, top_same, whole_same}
 use Rattle.xfs_restored.proofs.Readings.{attrs_have, bare_is, file_has, reads_file, stated}

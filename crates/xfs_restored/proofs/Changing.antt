@@ -3,8 +3,8 @@ use Rattle.std.proofs.Common.{◌≡◌, inl, inr, ℕ, suc, Bool, true, false, 
 use Rattle.std.proofs.lemmas.Bool.{cases_order, eq-eqb, eqb-true, le-ltb, lt-ltb, ne_eqb}
 use Rattle.xfs_render.specs.Slots.{wanted_of}
 use Rattle.xfs_render.specs.declared.wanted_slots.SlotWanted.{SlotWanted}
-use Rattle.xfs_changes.specs.Slots.{changed, changed_alone, put_first, slots_before, with_changes}
-use Rattle.xfs_changes.specs.declared.changes.SlotChange.{SlotChange}
+use Rattle.xfs_rename.specs.xfs_changes.Slots.{changed, changed_alone, put_first, slots_before, with_changes}
+use Rattle.xfs_rename.specs.xfs_changes.declared.changes.SlotChange.{SlotChange}
 use Rattle.xfs_restored.specs.Changes.{ChangesAscend, SlotsAscend, first_change, with_change}
 
 -- slots in front of a change stay there

@@ -25,14 +25,14 @@ use Rattle.xfs_render.specs.declared.bytes.Bytes.{Bytes}
 use Rattle.xfs_render.specs.declared.wanted_slots.SlotWanted.{SlotWanted}
 use Rattle.xfs_salvage.specs.Kept.{run_of_cluster}
 use Rattle.xfs_views.specs.SameFiles.{HasSameClaims}
-use Rattle.xfs_rebuild.specs.Places.{old_places}
-use Rattle.xfs_rebuild.specs.declared.names_due.NamesDue.{NamesDue}
-use Rattle.xfs_made.proofs.Counting.{taken_on, untaken_on}
+use Rattle.xfs_rename.specs.xfs_rebuild.Places.{old_places}
+use Rattle.xfs_rename.specs.xfs_rebuild.declared.names_due.NamesDue.{NamesDue}
+use Rattle.xfs_rename.proofs.xfs_made.Counting.{taken_on, untaken_on}
 use Rattle.xfs_restored.proofs.Kept.{places_used}
-use Rattle.xfs_made.proofs.PlansApart.{head_fixed, kept_off, taken_unfixed}
+use Rattle.xfs_rename.proofs.xfs_made.PlansApart.{head_fixed, kept_off, taken_unfixed}
 use Rattle.xfs_restored.proofs.Staying.{off_list}
 use Rattle.xfs_restored.specs.Rewriting.{IsRewritten}
-use Rattle.xfs_made.specs.Unused.{IsHeadOrKept}
+use Rattle.xfs_rename.specs.xfs_made.Unused.{IsHeadOrKept}
 use Rattle.xfs_rename.specs.Lost.{lost_due}
 use Rattle.xfs_rename.specs.Objects.{wanted_with}
 use Rattle.xfs_rename.specs.Renames.{IsRenamed, old_files, placed_forks, renamed_slots, renamed_wanted}

@@ -9,11 +9,11 @@ use Rattle.xfs_geom.specs.Volumes.{volume_of}
 use Rattle.xfs_geom.specs.declared.geometry.Geometry.{Geometry}
 use Rattle.xfs_image.specs.Slots.{cluster_inodes}
 use Rattle.xfs_naming.specs.Naming.{NumbersAscend}
-use Rattle.xfs_requested.proofs.Inodes.{first_in}
+use Rattle.xfs_rename.proofs.xfs_requested.Inodes.{first_in}
 use Rattle.xfs_views.proofs.Members.{Member}
-use Rattle.xfs_requested.proofs.Spaced.{AreSpaced, inodes_up}
+use Rattle.xfs_rename.proofs.xfs_requested.Spaced.{AreSpaced, inodes_up}
 use Rattle.xfs_salvage.specs.Kept.{run_of_cluster}
-use Rattle.xfs_rebuild.specs.declared.names_due.NamesDue.{NamesDue}
+use Rattle.xfs_rename.specs.xfs_rebuild.declared.names_due.NamesDue.{NamesDue}
 use Rattle.xfs_rename.specs.Lost.{lost_due}
 use Rattle.xfs_rename.specs.Renames.{IsRenamed}
 use Rattle.xfs_rename.specs.Settled.{settled, with_number_in_order, with_numbers}

@@ -22,7 +22,7 @@ use Rattle.xfs_views.specs.SameFiles.{HasSameClaims}
 use Rattle.xfs_views.proofs.NamedClaims.{data_claimed}
 use Rattle.xfs_views.proofs.Members.{Member}
 use Rattle.xfs_salvage.specs.declared.found.Salvaged.{Salvaged}
-use Rattle.xfs_request.specs.declared.seen.SlotSeen.{SlotSeen}
+use Rattle.xfs_rename.specs.xfs_request.declared.seen.SlotSeen.{SlotSeen}
 use Rattle.xfs_restored.specs.Kept.{HasKept}
 use Rattle.xfs_restored.proofs.RereadSlots.{claims_stay}
 use Rattle.xfs_restored.proofs.SameForks.{file_core, fork_stays}

@@ -16,7 +16,7 @@ use Rattle.xfs_image.specs.Candidates.{candidates}
 use Rattle.xfs_image.specs.Claims.{candidate_files}
 use Rattle.xfs_image.specs.Directories.{data_blocks, dir_of, directories, dirs_read, entries_of, entries_of_form, entries_read, is_whole, parent_of, parent_of_form, short_form}
 use Rattle.xfs_image.specs.Slots.{slot_bytes}
-use Rattle.xfs_requested.proofs.Candidates.{image_can}
+use Rattle.xfs_rename.proofs.xfs_requested.Candidates.{image_can}
 use Rattle.xfs_naming.specs.Naming.{AreGrouped, NumbersAscend, is_directory_at, numbers_of}
 use Rattle.xfs_views.proofs.Members.{Member, any_member, filter_member, member_any, member_filter}
 use Rattle.xfs_salvage.proofs.Ascending.{claiming_ascend}
@@ -27,8 +27,8 @@ use Rattle.xfs_volume.specs.Names.{is_directory}
 use Rattle.xfs_volume.specs.declared.directories.DirRec.{DirRec}
 use Rattle.xfs_volume.specs.declared.files.FileRec.{FileRec}
 use Rattle.xfs_volume.specs.Rest.{no_rest}
-use Rattle.xfs_request.specs.Fresh.{new_slot, new_root_core, new_root_slot, new_system_core, new_system_slot}
-use Rattle.xfs_request.specs.declared.seen.SlotSeen.{SlotSeen}
+use Rattle.xfs_rename.specs.xfs_request.Fresh.{new_slot, new_root_core, new_root_slot, new_system_core, new_system_slot}
+use Rattle.xfs_rename.specs.xfs_request.declared.seen.SlotSeen.{SlotSeen}
 use Rattle.xfs_render.specs.Slots.{IsMadeSlot}
 use Rattle.xfs_restored.specs.DueFiles.{due_file, fresh_file, fresh_root, rebuilt_dirs, rebuilt_files, with_new}
 use Rattle.xfs_restored.specs.Kept.{HasKept}

@@ -16,15 +16,15 @@ use Rattle.xfs_names.specs.Wanted.{directory_node, wanted_entries, wanted_nodes,
 use Rattle.xfs_names.specs.declared.records.WantedNames.{WantedNames}
 use Rattle.xfs_views.proofs.Members.{Member, any_member, map_member}
 use Rattle.xfs_salvage.specs.Kept.{own_inodes}
-use Rattle.xfs_scan.specs.declared.evidence.Evidence.{Evidence}
-use Rattle.xfs_rebuild.specs.declared.names_due.NamesDue.{NamesDue}
+use Rattle.xfs_rename.specs.xfs_scan.declared.evidence.Evidence.{Evidence}
+use Rattle.xfs_rename.specs.xfs_rebuild.declared.names_due.NamesDue.{NamesDue}
 use Rattle.xfs_rename.specs.Lost.{lost_due}
-use Rattle.xfs_changes.specs.Nodes.{nodes_of_files}
+use Rattle.xfs_rename.specs.xfs_changes.Nodes.{nodes_of_files}
 use Rattle.xfs_rename.specs.Renames.{old_files}
-use Rattle.xfs_changes.specs.Slots.{lost_core}
-use Rattle.xfs_changes.specs.declared.lost_found.Lost.{Lost}
+use Rattle.xfs_rename.specs.xfs_changes.Slots.{lost_core}
+use Rattle.xfs_rename.specs.xfs_changes.declared.lost_found.Lost.{Lost}
 use Rattle.xfs_rename.specs.declared.planning.Renamed.{Renamed}
-use Rattle.xfs_built.specs.Directories.{BuiltRuns}
+use Rattle.xfs_rename.specs.xfs_built.Directories.{BuiltRuns}
 use Rattle.xfs_restored.specs.DueFiles.{new_core, stated_crc}
 use Rattle.xfs_restored.specs.Relinking.{IsRelinked, built_at, built_of, file_due, core_anew, file_with_links, renamed_dirs, renamed_files, with_built}
 use Rattle.xfs_restored.proofs.FilesAlike.{all_whole, built_kind, built_links, built_number, linked_links, linked_number, links_are, node_same, nodes_are, pairs_are}

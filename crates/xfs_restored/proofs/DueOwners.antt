@@ -11,8 +11,8 @@ use Rattle.xfs_space.specs.Owners.{file_runs}
 use Rattle.xfs_volume.specs.declared.files.FileRec.{FileRec}
 use Rattle.xfs_views.proofs.Members.{Member}
 use Rattle.xfs_salvage.specs.declared.found.Salvaged.{Salvaged}
-use Rattle.xfs_request.specs.Chunks.{is_inode_used}
-use Rattle.xfs_request.specs.declared.seen.SlotSeen.{SlotSeen}
+use Rattle.xfs_rename.specs.xfs_request.Chunks.{is_inode_used}
+use Rattle.xfs_rename.specs.xfs_request.declared.seen.SlotSeen.{SlotSeen}
 use Rattle.xfs_restored.specs.DueFiles.{due_file, fresh_file, rebuilt_files, with_new}
 
 abbrev number : FileRec → ℕ

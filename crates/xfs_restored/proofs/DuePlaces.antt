@@ -25,13 +25,13 @@ use Rattle.xfs_volume.specs.Names.{type_of}
 use Rattle.xfs_volume.specs.declared.catalogs.BlockLsn.{BlockLsn}
 use Rattle.xfs_volume.specs.declared.files.FileRec.{FileRec}
 use Rattle.xfs_salvage.specs.declared.found.Salvaged.{Salvaged}
-use Rattle.xfs_request.specs.declared.seen.SlotSeen.{SlotSeen}
-use Rattle.xfs_rebuild.specs.Bytes.{file_lsns, is_of_file}
-use Rattle.xfs_rebuild.specs.Names as Names
+use Rattle.xfs_rename.specs.xfs_request.declared.seen.SlotSeen.{SlotSeen}
+use Rattle.xfs_rename.specs.xfs_rebuild.Bytes.{file_lsns, is_of_file}
+use Rattle.xfs_rename.specs.xfs_rebuild.Names as Names
 use Rattle.xfs_restored.proofs.FileLsns.{in_order, place_claimed}
 use Rattle.xfs_rename.specs.Settled.{staying_file, without_data}
-use Rattle.xfs_changes.specs.declared.lost_found.Lost.{Lost}
-use Rattle.xfs_built.specs.Directories.{BuiltRuns}
+use Rattle.xfs_rename.specs.xfs_changes.declared.lost_found.Lost.{Lost}
+use Rattle.xfs_rename.specs.xfs_built.Directories.{BuiltRuns}
 use Rattle.xfs_restored.specs.Relinking.{extents_built, file_with_links, with_built}
 
 -- of a directory that has no tree: in its blocks, or in those of its attributes

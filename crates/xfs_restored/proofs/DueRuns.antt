@@ -19,25 +19,25 @@ use Rattle.xfs_views.proofs.Members.{Member, any_member, contained, contains, fi
 use Rattle.xfs_space.specs.Owners.{attribute_flag, extent_run, file_runs}
 use Rattle.xfs_volume.specs.declared.files.FileRec.{FileRec}
 use Rattle.xfs_salvage.specs.declared.found.Salvaged.{Salvaged}
-use Rattle.xfs_request.specs.Chunks.{is_inode_used}
-use Rattle.xfs_request.specs.declared.seen.SlotSeen.{SlotSeen}
-use Rattle.xfs_requested.proofs.Taken.{among_member}
-use Rattle.xfs_rebuild.specs.Names as Names
-use Rattle.xfs_rebuild.specs.Names.{linked_files}
-use Rattle.xfs_rebuild.specs.Rebuilds.{Ground}
-use Rattle.xfs_rebuild.specs.declared.names_due.NamesDue.{NamesDue}
+use Rattle.xfs_rename.specs.xfs_request.Chunks.{is_inode_used}
+use Rattle.xfs_rename.specs.xfs_request.declared.seen.SlotSeen.{SlotSeen}
+use Rattle.xfs_rename.proofs.xfs_requested.Taken.{among_member}
+use Rattle.xfs_rename.specs.xfs_rebuild.Names as Names
+use Rattle.xfs_rename.specs.xfs_rebuild.Names.{linked_files}
+use Rattle.xfs_rename.specs.xfs_rebuild.Rebuilds.{Ground}
+use Rattle.xfs_rename.specs.xfs_rebuild.declared.names_due.NamesDue.{NamesDue}
 use Rattle.xfs_restored.proofs.DueOwners.{mapped_same}
 use Rattle.xfs_restored.specs.DueFiles.{stated_crc}
 use Rattle.xfs_rename.specs.Lost.{lost_due}
-use Rattle.xfs_built.specs.Asks.{objects_of, stands_in_blocks}
+use Rattle.xfs_rename.specs.xfs_built.Asks.{objects_of, stands_in_blocks}
 use Rattle.xfs_rename.specs.Renames.{old_files}
-use Rattle.xfs_changes.specs.Rooms.{fork_rooms}
+use Rattle.xfs_rename.specs.xfs_changes.Rooms.{fork_rooms}
 use Rattle.xfs_rename.specs.Settled.{settled, staying_file, without_data}
-use Rattle.xfs_changes.specs.declared.lost_found.Lost.{Lost}
-use Rattle.xfs_built.specs.Directories.{BuiltRuns, asks_of_built, built_runs, runs_of_built, with_runs}
+use Rattle.xfs_rename.specs.xfs_changes.declared.lost_found.Lost.{Lost}
+use Rattle.xfs_rename.specs.xfs_built.Directories.{BuiltRuns, asks_of_built, built_runs, runs_of_built, with_runs}
 use Rattle.xfs_restored.specs.Numbered.{AreNumbered, IsNumberOf, numbers_linked}
 use Rattle.xfs_restored.specs.Relinking.{built_at, built_of, extents_built, file_due, first_built, file_with_links, renamed_files, with_built}
-use Rattle.xfs_built.proofs.NumberedSums.{none_at, one_at, sum_each, sum_flat, sum_mapped, sum_same, sum_two}
+use Rattle.xfs_rename.proofs.xfs_built.NumberedSums.{none_at, one_at, sum_each, sum_flat, sum_mapped, sum_same, sum_two}
 use Rattle.xfs_restored.proofs.ServedRuns.{all_served, runs_built}
 use Rattle.xfs_restored.proofs.WantedLists.{at_first, at_has}
 

@@ -24,13 +24,13 @@ use Rattle.xfs_render.specs.Rendering.{byte_place, is_head, old_at}
 use Rattle.xfs_render.specs.Slots.{IsMadeSlot, IsSlotDue, wanted_of}
 use Rattle.xfs_render.specs.declared.bytes.Bytes.{Bytes}
 use Rattle.xfs_render.specs.declared.wanted_slots.SlotWanted.{SlotWanted}
-use Rattle.xfs_made.proofs.Slots.{slots_stand}
-use Rattle.xfs_made.specs.Standing.{HasHeads, IsStanding}
+use Rattle.xfs_rename.proofs.xfs_made.Slots.{slots_stand}
+use Rattle.xfs_rename.specs.xfs_made.Standing.{HasHeads, IsStanding}
 use Rattle.xfs_salvage.specs.Kept.{run_of_cluster}
-use Rattle.xfs_rebuild.specs.Places.{has_wanted, old_places}
-use Rattle.xfs_rebuild.specs.declared.names_due.NamesDue.{NamesDue}
+use Rattle.xfs_rename.specs.xfs_rebuild.Places.{has_wanted, old_places}
+use Rattle.xfs_rename.specs.xfs_rebuild.declared.names_due.NamesDue.{NamesDue}
 use Rattle.xfs_restored.proofs.Kept.{cluster_place, head_place, none_wanted, some_wanted, unwanted_off}
-use Rattle.xfs_made.proofs.PlansApart.{kept_off}
+use Rattle.xfs_rename.proofs.xfs_made.PlansApart.{kept_off}
 use Rattle.xfs_restored.proofs.Staying.{off_list}
 use Rattle.xfs_rename.specs.Lost.{lost_due}
 use Rattle.xfs_rename.specs.Objects.{wanted_with}

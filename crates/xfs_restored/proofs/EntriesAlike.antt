@@ -29,7 +29,7 @@ use Rattle.xfs_names.proofs.ByNumber.{directories_ascend}
 use Rattle.xfs_names.proofs.Deciding.{nodes_ascend, together_known}
 use Rattle.xfs_names.proofs.Grouping.{grouped}
 use Rattle.xfs_views.proofs.Members.{Member, member_any, member_filter, member_map}
-use Rattle.xfs_rebuild.specs.declared.names_due.NamesDue.{NamesDue}
+use Rattle.xfs_rename.specs.xfs_rebuild.declared.names_due.NamesDue.{NamesDue}
 use Rattle.xfs_restored.specs.Relinking.{entries_due, renamed_dirs, renamed_entries, whole_with}
 
 -- the entries of one directory are its own

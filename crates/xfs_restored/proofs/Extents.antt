@@ -14,9 +14,9 @@ use Rattle.xfs_tree.specs.Blocks.{each_of}
 use Rattle.xfs_kinds.specs.FileTreeLaws.{bmbt_kind}
 use Rattle.xfs_kinds.specs.FileTrees.{extent_of}
 use Rattle.xfs_inode.specs.Forks.{fork_extent}
-use Rattle.xfs_built.specs.Extents.{extent_of_run}
-use Rattle.xfs_changes.specs.Forks.{run_bytes}
-use Rattle.xfs_built.specs.Directories.{FitsExtent}
+use Rattle.xfs_rename.specs.xfs_built.Extents.{extent_of_run}
+use Rattle.xfs_rename.specs.xfs_changes.Forks.{run_bytes}
+use Rattle.xfs_rename.specs.xfs_built.Directories.{FitsExtent}
 
 pub run_fits : (g : Geometry) (r : Run) → r.offset_word < 2 ^ 54 → r.start < g.dblocks → r.count < 2 ^ 21 → FitsExtent (volume_of g) r
 unfolding address_of

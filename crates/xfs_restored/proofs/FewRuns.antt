@@ -14,12 +14,12 @@ use Rattle.xfs_place.specs.declared.wanted.Object.{Object}
 use Rattle.xfs_place.specs.declared.wanted.RunAsk.{RunAsk}
 use Rattle.xfs_place.proofs.Pieces.{objects_behind, pieces_behind}
 use Rattle.xfs_render.specs.Objects.{asks_with_kind}
-use Rattle.xfs_built.specs.Asks.{asks_for, object_of, objects_of, stands_in_blocks}
-use Rattle.xfs_built.specs.Directories.{BuiltRuns, HasOwnCounts, asks_of_built, built_runs, runs_of_built, with_runs}
-use Rattle.xfs_built.specs.Pieces.{IsFrontOfAsks, asked_offsets, offsets_in, run_offsets}
-use Rattle.xfs_built.proofs.Fronts.{front_is}
-use Rattle.xfs_built.proofs.Mapping.{length_range}
-use Rattle.xfs_built.proofs.Standing.{asks_plain}
+use Rattle.xfs_rename.specs.xfs_built.Asks.{asks_for, object_of, objects_of, stands_in_blocks}
+use Rattle.xfs_rename.specs.xfs_built.Directories.{BuiltRuns, HasOwnCounts, asks_of_built, built_runs, runs_of_built, with_runs}
+use Rattle.xfs_rename.specs.xfs_built.Pieces.{IsFrontOfAsks, asked_offsets, offsets_in, run_offsets}
+use Rattle.xfs_rename.proofs.xfs_built.Fronts.{front_is}
+use Rattle.xfs_rename.proofs.xfs_built.Mapping.{length_range}
+use Rattle.xfs_rename.proofs.xfs_built.Standing.{asks_plain}
 
 -- how many blocks runs have, and how many asks ask for
 abbrev blocks_of : List Run → ℕ

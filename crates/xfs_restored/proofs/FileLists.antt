@@ -11,7 +11,7 @@ use Rattle.xfs_naming.specs.Naming.{NumbersAscend}
 use Rattle.xfs_volume.specs.declared.files.FileRec.{FileRec}
 use Rattle.xfs_views.proofs.Members.{Member}
 use Rattle.xfs_restored.proofs.DueList.{number_least}
-use Rattle.xfs_changes.specs.declared.lost_found.Lost.{Lost}
+use Rattle.xfs_rename.specs.xfs_changes.declared.lost_found.Lost.{Lost}
 use Rattle.xfs_restored.specs.Changes.{LinksAscend, inodes_taken}
 
 -- pairs ascend by number

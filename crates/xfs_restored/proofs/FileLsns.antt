@@ -28,12 +28,12 @@ use Rattle.xfs_space.specs.Owners.{file_runs}
 use Rattle.xfs_volume.specs.Names.{type_of}
 use Rattle.xfs_volume.specs.declared.catalogs.BlockLsn.{BlockLsn}
 use Rattle.xfs_volume.specs.declared.files.FileRec.{FileRec}
-use Rattle.xfs_requested.proofs.Candidates.{image_can}
-use Rattle.xfs_requested.proofs.KeptTaken.{are_kept, fixed_covered}
+use Rattle.xfs_rename.proofs.xfs_requested.Candidates.{image_can}
+use Rattle.xfs_rename.proofs.xfs_requested.KeptTaken.{are_kept, fixed_covered}
 use Rattle.xfs_salvage.specs.Kept.{kept_clusters, kept_files, run_of_cluster, taken_in, taken_of}
 use Rattle.xfs_salvage.specs.declared.found.Salvaged.{Salvaged}
-use Rattle.xfs_request.specs.declared.seen.SlotSeen.{SlotSeen}
-use Rattle.xfs_rebuild.specs.Bytes.{file_lsns, is_of_file}
+use Rattle.xfs_rename.specs.xfs_request.declared.seen.SlotSeen.{SlotSeen}
+use Rattle.xfs_rename.specs.xfs_rebuild.Bytes.{file_lsns, is_of_file}
 use Rattle.xfs_restored.specs.Kept.{HasKept}
 use Rattle.xfs_restored.proofs.RereadSlots.{claims_stay}
 

@@ -10,10 +10,10 @@ use Rattle.xfs_volume.specs.declared.files.FileRec.{FileRec}
 use Rattle.xfs_links.specs.declared.records.NodeRec.{NodeRec}
 use Rattle.xfs_names.specs.Having.{node_of}
 use Rattle.xfs_views.proofs.Members.{Member}
-use Rattle.xfs_request.specs.declared.seen.SlotSeen.{SlotSeen}
-use Rattle.xfs_changes.specs.declared.lost_found.Lost.{Lost}
+use Rattle.xfs_rename.specs.xfs_request.declared.seen.SlotSeen.{SlotSeen}
+use Rattle.xfs_rename.specs.xfs_changes.declared.lost_found.Lost.{Lost}
 use Rattle.xfs_naming.specs.Naming.{file_at}
-use Rattle.xfs_built.specs.Directories.{BuiltRuns}
+use Rattle.xfs_rename.specs.xfs_built.Directories.{BuiltRuns}
 use Rattle.xfs_restored.specs.Relinking.{file_with_links, whole_with, with_built}
 use Rattle.xfs_restored.proofs.WantedLists.{at_has}
 

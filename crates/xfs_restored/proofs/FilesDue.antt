@@ -9,12 +9,12 @@ use Rattle.xfs_image.specs.Candidates.{candidates}
 use Rattle.xfs_image.specs.Claims.{candidate_files}
 use Rattle.xfs_image.specs.Files.{files_at, files_read, inodes_of}
 use Rattle.xfs_image.specs.Slots.{cluster_inodes}
-use Rattle.xfs_requested.proofs.Candidates.{image_can}
-use Rattle.xfs_requested.proofs.Inodes.{first_in}
-use Rattle.xfs_requested.proofs.Spaced.{AreSpaced, kept_spaced}
-use Rattle.xfs_scan.specs.declared.evidence.Evidence.{Evidence}
+use Rattle.xfs_rename.proofs.xfs_requested.Candidates.{image_can}
+use Rattle.xfs_rename.proofs.xfs_requested.Inodes.{first_in}
+use Rattle.xfs_rename.proofs.xfs_requested.Spaced.{AreSpaced, kept_spaced}
+use Rattle.xfs_rename.specs.xfs_scan.declared.evidence.Evidence.{Evidence}
 use Rattle.xfs_volume.specs.declared.groups.GroupRec.{GroupRec}
-use Rattle.xfs_rebuild.specs.declared.names_due.NamesDue.{NamesDue}
+use Rattle.xfs_rename.specs.xfs_rebuild.declared.names_due.NamesDue.{NamesDue}
 use Rattle.xfs_rename.specs.Lost.{lost_due}
 use Rattle.xfs_rename.specs.Settled.{settled}
 use Rattle.xfs_rename.specs.declared.planning.Renamed.{Renamed}

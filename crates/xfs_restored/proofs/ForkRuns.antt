@@ -8,11 +8,11 @@ use Rattle.xfs_volume.specs.declared.files.FileRec.{FileRec}
 use Rattle.xfs_naming.specs.Naming.{NumbersAscend}
 use Rattle.xfs_names.specs.declared.building.BuiltDirectory.{BuiltDirectory}
 use Rattle.xfs_views.proofs.Members.{Member, all_members}
-use Rattle.xfs_changes.specs.Forks.{attribute_blocks_at, extents_fork, fork_listed, forks_of, short_fork}
-use Rattle.xfs_built.specs.Asks.{stands_in_blocks}
-use Rattle.xfs_changes.specs.Slots.{first_fork, fork_at}
-use Rattle.xfs_changes.specs.declared.forks.DirectoryFork.{DirectoryFork}
-use Rattle.xfs_built.specs.Directories.{BuiltRuns, asks_of_built, built_runs, runs_of_built, with_runs}
+use Rattle.xfs_rename.specs.xfs_changes.Forks.{attribute_blocks_at, extents_fork, fork_listed, forks_of, short_fork}
+use Rattle.xfs_rename.specs.xfs_built.Asks.{stands_in_blocks}
+use Rattle.xfs_rename.specs.xfs_changes.Slots.{first_fork, fork_at}
+use Rattle.xfs_rename.specs.xfs_changes.declared.forks.DirectoryFork.{DirectoryFork}
+use Rattle.xfs_rename.specs.xfs_built.Directories.{BuiltRuns, asks_of_built, built_runs, runs_of_built, with_runs}
 use Rattle.xfs_restored.specs.RunForks.{FindsFork, fork_of_runs}
 
 module _ (v : Volume) (files : List FileRec) where

@@ -25,11 +25,11 @@ use Rattle.xfs_inode.specs.declared.reading.SlotRead.{SlotRead}
 use Rattle.xfs_inode.specs.declared.reading.SlotRead.TheVariants as Read
 use Rattle.xfs_inodebuild.specs.declared.forks.ForkWanted.{ForkWanted}
 use Rattle.xfs_render.specs.Slots.{SetsFork}
-use Rattle.xfs_built.specs.Extents.{extent_of_run}
-use Rattle.xfs_changes.specs.Forks.{run_bytes}
+use Rattle.xfs_rename.specs.xfs_built.Extents.{extent_of_run}
+use Rattle.xfs_rename.specs.xfs_changes.Forks.{run_bytes}
 use Rattle.xfs_restored.proofs.Changes.{attr_is}
 use Rattle.xfs_restored.proofs.Readings.{attrs_have, file_has, stated}
-use Rattle.xfs_built.specs.Directories.{FitsExtent}
+use Rattle.xfs_rename.specs.xfs_built.Directories.{FitsExtent}
 use Rattle.xfs_restored.specs.Reading.{AreExtents, HasAttributes, IsDirectoryCore, StandsBeside, directory_file, forked_core, forked_file, fork_contents}
 use Rattle.xfs_restored.proofs.Extents.{extents_back}
 use Rattle.xfs_restored.proofs.UsedSlots.{directory_reads, extents_fork_held, extents_local, short_fork_held, short_local}

@@ -21,8 +21,8 @@ use Rattle.xfs_render.specs.Slots.{IsFreeSlot, IsFreshSlot, IsMadeSlot, SetsFork
 use Rattle.xfs_volume.specs.declared.cores.Core.{Core}
 use Rattle.xfs_volume.specs.declared.files.FileRec.{FileRec}
 use Rattle.xfs_volume.specs.Rest.{no_rest}
-use Rattle.xfs_request.specs.Fresh.{new_root_core, new_root_fork, new_root_slot, new_system_core, new_system_slot}
-use Rattle.xfs_request.specs.Slots.{freed_slot}
+use Rattle.xfs_rename.specs.xfs_request.Fresh.{new_root_core, new_root_fork, new_root_slot, new_system_core, new_system_slot}
+use Rattle.xfs_rename.specs.xfs_request.Slots.{freed_slot}
 
 -- a file with this core, sealed with a checksum, that has no blocks
 abbrev pub empty_file : Core → ℕ → FileRec

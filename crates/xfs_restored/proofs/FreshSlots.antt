@@ -23,9 +23,9 @@ use Rattle.xfs_inodebuild.specs.declared.forks.ForkWanted.{ForkWanted}
 use Rattle.xfs_volume.specs.declared.cores.Core.{Core}
 use Rattle.xfs_names.specs.declared.building.BuiltDirectory.{BuiltDirectory}
 use Rattle.xfs_render.specs.Slots.{IsFreshSlot, IsMadeSlot, SetsFork, SetsLinks}
-use Rattle.xfs_built.specs.Extents.{extent_of_run}
-use Rattle.xfs_changes.specs.Forks.{extents_fork, short_fork}
-use Rattle.xfs_built.specs.Directories.{FitsExtent}
+use Rattle.xfs_rename.specs.xfs_built.Extents.{extent_of_run}
+use Rattle.xfs_rename.specs.xfs_changes.Forks.{extents_fork, short_fork}
+use Rattle.xfs_rename.specs.xfs_built.Directories.{FitsExtent}
 use Rattle.xfs_restored.specs.Reading.{AreExtents, HasAttributes, IsDirectoryCore, IsFreshDirectory, directory_file, forked_core, fresh_directory_slot, made_core}
 use Rattle.xfs_restored.proofs.Extents.{extents_back}
 use Rattle.xfs_restored.proofs.UsedSlots.{directory_reads, extents_fork_held, extents_local, short_fork_held, short_local}

@@ -10,12 +10,12 @@ use Rattle.xfs_image.specs.Claims.{candidate_files}
 use Rattle.xfs_image.specs.Directories.{dirs_read, entries_read}
 use Rattle.xfs_image.specs.Slots.{slot_bytes}
 use Rattle.xfs_render.specs.Slots.{IsSlotDue}
-use Rattle.xfs_scan.specs.Evidence.{IsEvidence}
-use Rattle.xfs_scan.specs.declared.evidence.Evidence.{Evidence}
+use Rattle.xfs_rename.specs.xfs_scan.Evidence.{IsEvidence}
+use Rattle.xfs_rename.specs.xfs_scan.declared.evidence.Evidence.{Evidence}
 use Rattle.xfs_salvage.specs.Kept.{entries_of_kept, fresh_inodes, kept_clusters, kept_dirs, kept_files}
-use Rattle.xfs_requested.specs.Handed.{IsKeptOf}
-use Rattle.xfs_rebuild.specs.Rebuilds.{Ground, IsGround, IsRebuildOf, slots_asked}
-use Rattle.xfs_rebuild.specs.declared.planning.Rebuilt.{Rebuilt}
+use Rattle.xfs_rename.specs.xfs_requested.Handed.{IsKeptOf}
+use Rattle.xfs_rename.specs.xfs_rebuild.Rebuilds.{Ground, IsGround, IsRebuildOf, slots_asked}
+use Rattle.xfs_rename.specs.xfs_rebuild.declared.planning.Rebuilt.{Rebuilt}
 use Rattle.xfs_restored.specs.Rewriting.{IsRewritten}
 use Rattle.xfs_restored.proofs.SlotsDue.{slots_due}
 use Rattle.xfs_restored.proofs.Staying.{claims_stay}

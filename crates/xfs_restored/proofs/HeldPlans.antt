@@ -30,17 +30,17 @@ use Rattle.xfs_render.specs.declared.bytes.Bytes.{Bytes}
 use Rattle.xfs_render.specs.declared.plan.Plan.{Plan}
 use Rattle.xfs_render.specs.declared.wanted_slots.SlotWanted.{SlotWanted}
 use Rattle.xfs_salvage.specs.Kept.{run_of_cluster}
-use Rattle.xfs_rebuild.specs.Differing.{left_to_write}
-use Rattle.xfs_rebuild.specs.Places.{old_places}
-use Rattle.xfs_rebuild.specs.Rebuilds.{IsLeft}
-use Rattle.xfs_rebuild.specs.declared.names_due.NamesDue.{NamesDue}
-use Rattle.xfs_rebuild.specs.declared.planning.Rebuilt.{Rebuilt}
+use Rattle.xfs_rename.specs.xfs_rebuild.Differing.{left_to_write}
+use Rattle.xfs_rename.specs.xfs_rebuild.Places.{old_places}
+use Rattle.xfs_rename.specs.xfs_rebuild.Rebuilds.{IsLeft}
+use Rattle.xfs_rename.specs.xfs_rebuild.declared.names_due.NamesDue.{NamesDue}
+use Rattle.xfs_rename.specs.xfs_rebuild.declared.planning.Rebuilt.{Rebuilt}
 use Rattle.xfs_restored.proofs.Kept.{places_apart, places_used}
-use Rattle.xfs_made.proofs.PlansApart.{all_of_log, plans_apart, trees}
+use Rattle.xfs_rename.proofs.xfs_made.PlansApart.{all_of_log, plans_apart, trees}
 use Rattle.xfs_restored.proofs.RowsWritten.{both_left}
 use Rattle.xfs_restored.proofs.Standing.{plan_beside, plan_held}
 use Rattle.xfs_restored.specs.Rewriting.{IsRewritten}
-use Rattle.xfs_made.specs.Unused.{AreHeadsOrKept, IsHeadOrKept, IsOfLog}
+use Rattle.xfs_rename.specs.xfs_made.Unused.{AreHeadsOrKept, IsHeadOrKept, IsOfLog}
 use Rattle.xfs_writing.specs.Writing.{writes_of_rows, written}
 use Rattle.xfs_writing.specs.declared.rows.Row.{Row}
 use Rattle.xfs_rename.specs.Lost.{lost_due}

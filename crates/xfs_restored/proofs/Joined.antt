@@ -20,14 +20,14 @@ use Rattle.xfs_volume.specs.declared.directories.DirRec.{DirRec}
 use Rattle.xfs_volume.specs.declared.files.FileRec.{FileRec}
 use Rattle.xfs_volume.specs.declared.findings.Law.{Law}
 use Rattle.xfs_volume.specs.declared.groups.GroupRec.{GroupRec}
-use Rattle.xfs_made.proofs.KeptLaws.{both_kept}
-use Rattle.xfs_made.proofs.Catalogs.{reads_as}
-use Rattle.xfs_made.proofs.Kept.{none_broken}
+use Rattle.xfs_rename.proofs.xfs_made.KeptLaws.{both_kept}
+use Rattle.xfs_rename.proofs.xfs_made.Catalogs.{reads_as}
+use Rattle.xfs_rename.proofs.xfs_made.Kept.{none_broken}
 use Rattle.xfs_names.specs.declared.building.BuiltDirectory.{BuiltDirectory}
 use Rattle.xfs_names.specs.declared.records.WantedNames.{WantedNames}
 use Rattle.xfs_place.specs.declared.placed.Placed.{Placed}
-use Rattle.xfs_rebuild.specs.Rebuilds.{Ground}
-use Rattle.xfs_rebuild.specs.declared.names_due.NamesDue.{NamesDue}
+use Rattle.xfs_rename.specs.xfs_rebuild.Rebuilds.{Ground}
+use Rattle.xfs_rename.specs.xfs_rebuild.declared.names_due.NamesDue.{NamesDue}
 use Rattle.xfs_restored.specs.Catalogs.{renamed_catalog, renamed_groups}
 use Rattle.xfs_restored.specs.Relinking.{renamed_dirs, renamed_entries, renamed_files}
 

@@ -9,15 +9,15 @@ use Rattle.xfs_image.specs.Claims.{candidate_inodes}
 use Rattle.xfs_image.specs.Keeping.{Keeps, Protected, file_bytes, lasting}
 use Rattle.xfs_image.specs.Slots.{reads_as}
 use Rattle.xfs_volume.specs.declared.files.FileRec.{FileRec}
-use Rattle.xfs_scan.specs.Evidence.{IsEvidence}
-use Rattle.xfs_scan.specs.declared.evidence.Evidence.{Evidence}
+use Rattle.xfs_rename.specs.xfs_scan.Evidence.{IsEvidence}
+use Rattle.xfs_rename.specs.xfs_scan.declared.evidence.Evidence.{Evidence}
 use Rattle.xfs_views.proofs.FilesStay as FilesStay
-use Rattle.xfs_requested.proofs.Protected.{protected_stays}
+use Rattle.xfs_rename.proofs.xfs_requested.Protected.{protected_stays}
 use Rattle.xfs_views.proofs.Members.{Member, any_member}
 use Rattle.xfs_views.proofs.Files.{file_sound}
-use Rattle.xfs_request.specs.Slots.{is_bare, links_due, own_blocks, state_at}
-use Rattle.xfs_rebuild.specs.Rebuilds.{Ground, IsRebuildOf}
-use Rattle.xfs_rebuild.specs.declared.planning.Rebuilt.{Rebuilt}
+use Rattle.xfs_rename.specs.xfs_request.Slots.{is_bare, links_due, own_blocks, state_at}
+use Rattle.xfs_rename.specs.xfs_rebuild.Rebuilds.{Ground, IsRebuildOf}
+use Rattle.xfs_rename.specs.xfs_rebuild.declared.planning.Rebuilt.{Rebuilt}
 use Rattle.xfs_restored.specs.Rewriting.{IsRewritten}
 use Rattle.xfs_restored.proofs.Staying.{files_of_image, protected_claims}
 use Rattle.xfs_restored.specs.DueFiles.{due_core, due_file, stated_crc}

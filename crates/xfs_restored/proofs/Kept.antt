@@ -25,12 +25,12 @@ use Rattle.xfs_render.specs.Slots.{wanted_of}
 use Rattle.xfs_render.specs.declared.wanted_slots.SlotWanted.{SlotWanted}
 use Rattle.xfs_salvage.specs.Kept.{run_of_cluster}
 use Rattle.xfs_space.proofs.Shared.{on-cons}
-use Rattle.xfs_made.proofs.OnceLists.{all_range, counted, counted_append, joined, rising_once}
-use Rattle.xfs_made.proofs.RowLists.{all_items}
-use Rattle.xfs_rebuild.specs.Places.{first_of_group, has_wanted, is_slot_wanted, old_places, wanted_blocks}
-use Rattle.xfs_made.specs.Unused.{AreHeadsOrKept, IsHeadOrKept}
-use Rattle.xfs_made.proofs.Counting.{counted_cons, row_on}
-use Rattle.xfs_made.proofs.PlansApart.{head_fixed, taken_left, taken_right, taken_unfixed}
+use Rattle.xfs_rename.proofs.xfs_made.OnceLists.{all_range, counted, counted_append, joined, rising_once}
+use Rattle.xfs_rename.proofs.xfs_made.RowLists.{all_items}
+use Rattle.xfs_rename.specs.xfs_rebuild.Places.{first_of_group, has_wanted, is_slot_wanted, old_places, wanted_blocks}
+use Rattle.xfs_rename.specs.xfs_made.Unused.{AreHeadsOrKept, IsHeadOrKept}
+use Rattle.xfs_rename.proofs.xfs_made.Counting.{counted_cons, row_on}
+use Rattle.xfs_rename.proofs.xfs_made.PlansApart.{head_fixed, taken_left, taken_right, taken_unfixed}
 
 abbrev heads : Volume → List ℕ
 heads v = map (first_of_group v) (range_with_len 0 v.agcount)

@@ -13,7 +13,7 @@ use Rattle.xfs_geom.specs.declared.geometry.Geometry.{Geometry}
 use Rattle.xfs_image.specs.Candidates.{candidates}
 use Rattle.xfs_image.specs.Claims.{candidate_files}
 use Rattle.xfs_image.specs.Directories.{dir_of, directories, dirs_read, entries_of, entries_read, is_whole, parent_of}
-use Rattle.xfs_requested.proofs.Candidates.{image_can}
+use Rattle.xfs_rename.proofs.xfs_requested.Candidates.{image_can}
 use Rattle.xfs_naming.specs.Naming.{AreGrouped, NumbersAscend, entries_in, file_at, is_directory_at, numbers_of}
 use Rattle.xfs_names.specs.Rebuilt.{is_whole_with}
 use Rattle.xfs_views.proofs.Members.{Member, any_member, filter_member, map_member, member_any, member_filter, member_map}
@@ -23,9 +23,9 @@ use Rattle.xfs_views.proofs.Names.{entries_grouped}
 use Rattle.xfs_volume.specs.Names.{is_directory}
 use Rattle.xfs_volume.specs.declared.directories.DirRec.{DirRec}
 use Rattle.xfs_volume.specs.declared.files.FileRec.{FileRec}
-use Rattle.xfs_scan.specs.declared.evidence.Evidence.{Evidence}
-use Rattle.xfs_rebuild.specs.Names.{new_root, with_dir}
-use Rattle.xfs_rebuild.specs.declared.names_due.NamesDue.{NamesDue}
+use Rattle.xfs_rename.specs.xfs_scan.declared.evidence.Evidence.{Evidence}
+use Rattle.xfs_rename.specs.xfs_rebuild.Names.{new_root, with_dir}
+use Rattle.xfs_rename.specs.xfs_rebuild.declared.names_due.NamesDue.{NamesDue}
 use Rattle.xfs_rename.specs.declared.planning.Renamed.{Renamed}
 use Rattle.xfs_restored.proofs.DueList.{number_least}
 use Rattle.xfs_restored.proofs.Wanted.{one_alone}

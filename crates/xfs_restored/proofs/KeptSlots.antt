@@ -21,12 +21,12 @@ use Rattle.xfs_inode.specs.declared.files.FileRead.TheVariants as Reads
 use Rattle.xfs_inode.specs.declared.reading.SlotRead.TheVariants as Read
 use Rattle.xfs_inodebuild.specs.declared.forks.ForkWanted.{ForkWanted}
 use Rattle.xfs_render.specs.Slots.{DropsAttrs, IsMadeSlot, SetsFork, SetsLinks}
-use Rattle.xfs_built.specs.Extents.{extent_of_run}
-use Rattle.xfs_changes.specs.Forks.{extents_fork, short_fork}
+use Rattle.xfs_rename.specs.xfs_built.Extents.{extent_of_run}
+use Rattle.xfs_rename.specs.xfs_changes.Forks.{extents_fork, short_fork}
 use Rattle.xfs_restored.specs.DueFiles.{plain_core}
 use Rattle.xfs_restored.proofs.Changes.{attr_is, drops_read, links_forks, links_read, with_core}
 use Rattle.xfs_restored.proofs.Readings.{HasData, file_has, stated}
-use Rattle.xfs_built.specs.Directories.{FitsExtent}
+use Rattle.xfs_rename.specs.xfs_built.Directories.{FitsExtent}
 use Rattle.xfs_restored.specs.Reading.{AreExtents, KeepsAttributes, ReadsBefore, StandsBeside, bare_core, forked_core, forked_file, fork_contents, kept_directory_slot, rebuilt_file}
 use Rattle.xfs_restored.proofs.ForkedSlots.{forked_blocks, forked_short}
 

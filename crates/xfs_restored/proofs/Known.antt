@@ -9,16 +9,16 @@ use Rattle.xfs_image.specs.Candidates.{candidates}
 use Rattle.xfs_image.specs.Claims.{candidate_inodes}
 use Rattle.xfs_image.specs.Slots.{slot_bytes}
 use Rattle.xfs_views.proofs.Members.{Member}
-use Rattle.xfs_slots.specs.Facts.{slot_fact, slot_facts}
-use Rattle.xfs_slots.specs.Gathered.{bare_inodes}
+use Rattle.xfs_rename.specs.xfs_slots.Facts.{slot_fact, slot_facts}
+use Rattle.xfs_rename.specs.xfs_slots.Gathered.{bare_inodes}
 use Rattle.xfs_rounds.specs.declared.facts.SlotReading.{SlotReading}
 use Rattle.xfs_rounds.specs.declared.facts.SlotReading.TheVariants as Reading
-use Rattle.xfs_scan.specs.Evidence.{IsEvidence}
-use Rattle.xfs_scan.specs.declared.evidence.Evidence.{Evidence}
-use Rattle.xfs_request.specs.declared.seen.SlotSeen.{SlotSeen}
-use Rattle.xfs_request.specs.declared.seen.SlotState.{SlotState}
-use Rattle.xfs_rebuild.specs.Found.{seen_in_evidence}
-use Rattle.xfs_rebuild.specs.Seen as Seen
+use Rattle.xfs_rename.specs.xfs_scan.Evidence.{IsEvidence}
+use Rattle.xfs_rename.specs.xfs_scan.declared.evidence.Evidence.{Evidence}
+use Rattle.xfs_rename.specs.xfs_request.declared.seen.SlotSeen.{SlotSeen}
+use Rattle.xfs_rename.specs.xfs_request.declared.seen.SlotState.{SlotState}
+use Rattle.xfs_rename.specs.xfs_rebuild.Found.{seen_in_evidence}
+use Rattle.xfs_rename.specs.xfs_rebuild.Seen as Seen
 use Rattle.xfs_restored.specs.Kept.{all_slots_seen, slot_seen, state_by}
 use Rattle.xfs_restored.proofs.KnownSlots.{known}
 

@@ -18,23 +18,23 @@ use Rattle.xfs_render.specs.Slots.{wanted_of}
 use Rattle.xfs_render.specs.declared.wanted_slots.SlotBase.TheVariants.{Fresh}
 use Rattle.xfs_render.specs.declared.wanted_slots.SlotWanted.{SlotWanted}
 use Rattle.xfs_salvage.specs.declared.found.Salvaged.{Salvaged}
-use Rattle.xfs_scan.specs.declared.evidence.Evidence.{Evidence}
-use Rattle.xfs_request.specs.Fresh.{new_root_fork}
-use Rattle.xfs_request.specs.Slots.{attrs_wanted, freed_slot, is_free, state_at}
-use Rattle.xfs_request.specs.declared.seen.SlotSeen.{SlotSeen}
-use Rattle.xfs_rebuild.specs.Names as Names
-use Rattle.xfs_rebuild.specs.declared.names_due.NamesDue.{NamesDue}
+use Rattle.xfs_rename.specs.xfs_scan.declared.evidence.Evidence.{Evidence}
+use Rattle.xfs_rename.specs.xfs_request.Fresh.{new_root_fork}
+use Rattle.xfs_rename.specs.xfs_request.Slots.{attrs_wanted, freed_slot, is_free, state_at}
+use Rattle.xfs_rename.specs.xfs_request.declared.seen.SlotSeen.{SlotSeen}
+use Rattle.xfs_rename.specs.xfs_rebuild.Names as Names
+use Rattle.xfs_rename.specs.xfs_rebuild.declared.names_due.NamesDue.{NamesDue}
 use Rattle.xfs_restored.specs.DueFiles.{kept_inodes, new_core}
-use Rattle.xfs_changes.specs.Forks.{attribute_blocks, attribute_blocks_at}
+use Rattle.xfs_rename.specs.xfs_changes.Forks.{attribute_blocks, attribute_blocks_at}
 use Rattle.xfs_rename.specs.Lost.{lost_due}
 use Rattle.xfs_rename.specs.Renames.{old_files, placed_forks, renamed_slots}
 use Rattle.xfs_rename.specs.Settled.{settled, staying_file}
-use Rattle.xfs_changes.specs.Slots.{lost_core}
-use Rattle.xfs_changes.specs.declared.lost_found.Lost.{Lost}
+use Rattle.xfs_rename.specs.xfs_changes.Slots.{lost_core}
+use Rattle.xfs_rename.specs.xfs_changes.declared.lost_found.Lost.{Lost}
 use Rattle.xfs_rename.specs.declared.planning.Renamed.{Renamed}
 use Rattle.xfs_naming.specs.Naming.{file_at}
 use Rattle.xfs_restored.specs.Changes.{LinksAscend}
-use Rattle.xfs_built.specs.Directories.{BuiltRuns, with_runs}
+use Rattle.xfs_rename.specs.xfs_built.Directories.{BuiltRuns, with_runs}
 use Rattle.xfs_restored.specs.RunForks.{fork_of_runs}
 use Rattle.xfs_restored.specs.Relinking.{IsRelinked, built_at}
 use Rattle.xfs_restored.proofs.PlainSlots.{IsLinked, kept_change}

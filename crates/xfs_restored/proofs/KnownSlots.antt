@@ -18,11 +18,11 @@ use Rattle.xfs_inode.specs.declared.reading.SlotRead.{SlotRead}
 use Rattle.xfs_inode.specs.declared.reading.SlotRead.TheVariants as Read
 use Rattle.xfs_views.proofs.Members.{Member, any_member, flat_member, member_any, member_flat}
 use Rattle.xfs_rounds.specs.Facts.{reading_of}
-use Rattle.xfs_slots.specs.Facts.{slot_fact}
-use Rattle.xfs_slots.specs.Gathered.{bare_if, bare_inodes}
+use Rattle.xfs_rename.specs.xfs_slots.Facts.{slot_fact}
+use Rattle.xfs_rename.specs.xfs_slots.Gathered.{bare_if, bare_inodes}
 use Rattle.xfs_volume.specs.declared.cores.Core.{Core}
-use Rattle.xfs_request.specs.Slots.{is_bare}
-use Rattle.xfs_request.specs.declared.seen.SlotState.TheVariants as State
+use Rattle.xfs_rename.specs.xfs_request.Slots.{is_bare}
+use Rattle.xfs_rename.specs.xfs_request.declared.seen.SlotState.TheVariants as State
 use Rattle.xfs_restored.specs.Kept.{state_by, state_read}
 
 -- a slot is not known as free

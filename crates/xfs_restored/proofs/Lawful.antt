@@ -31,29 +31,29 @@ use Rattle.xfs_place.specs.declared.faults.Unplaced.{Unplaced}
 use Rattle.xfs_place.specs.declared.placed.Placed.{Placed}
 use Rattle.xfs_place.specs.declared.wanted.GroupInodes.{GroupInodes}
 use Rattle.xfs_place.specs.declared.wanted.Wanted.{Wanted}
-use Rattle.xfs_scan.specs.Evidence.{IsEvidence}
-use Rattle.xfs_scan.specs.declared.evidence.Evidence.{Evidence}
-use Rattle.xfs_made.proofs.Chunks.{chunks_kept}
-use Rattle.xfs_made.proofs.Entries.{chains_kept, lists_kept}
-use Rattle.xfs_made.proofs.KeptLaws.{both_kept}
-use Rattle.xfs_made.proofs.Spaces.{space_lawful}
-use Rattle.xfs_made.proofs.Totals.{counters_kept}
-use Rattle.xfs_made.specs.Keeping.{KeepsJust}
-use Rattle.xfs_made.proofs.Lsns.{lsns_stand}
-use Rattle.xfs_made.proofs.Kept.{none_broken, space_kept}
-use Rattle.xfs_made.specs.Volumes.{Checksums}
+use Rattle.xfs_rename.specs.xfs_scan.Evidence.{IsEvidence}
+use Rattle.xfs_rename.specs.xfs_scan.declared.evidence.Evidence.{Evidence}
+use Rattle.xfs_rename.proofs.xfs_made.Chunks.{chunks_kept}
+use Rattle.xfs_rename.proofs.xfs_made.Entries.{chains_kept, lists_kept}
+use Rattle.xfs_rename.proofs.xfs_made.KeptLaws.{both_kept}
+use Rattle.xfs_rename.proofs.xfs_made.Spaces.{space_lawful}
+use Rattle.xfs_rename.proofs.xfs_made.Totals.{counters_kept}
+use Rattle.xfs_rename.specs.xfs_made.Keeping.{KeepsJust}
+use Rattle.xfs_rename.proofs.xfs_made.Lsns.{lsns_stand}
+use Rattle.xfs_rename.proofs.xfs_made.Kept.{none_broken, space_kept}
+use Rattle.xfs_rename.specs.xfs_made.Volumes.{Checksums}
 use Rattle.xfs_salvage.specs.declared.found.Salvaged.{Salvaged}
-use Rattle.xfs_request.specs.Chunks.{group_asked, inodes_wanted}
-use Rattle.xfs_request.specs.Requests.{volume_wanted}
-use Rattle.xfs_request.specs.Slots.{wanted_slots}
-use Rattle.xfs_request.specs.declared.seen.SlotSeen.{SlotSeen}
-use Rattle.xfs_requested.specs.Handed.{IsKeptOf}
-use Rattle.xfs_requested.proofs.Just.{keeps_just}
-use Rattle.xfs_requested.proofs.Used.{asked_due}
-use Rattle.xfs_rebuild.specs.Names as Names
-use Rattle.xfs_rebuild.specs.Names.{needs_names}
-use Rattle.xfs_rebuild.specs.Rebuilds.{Ground, IsRebuildOf, asked}
-use Rattle.xfs_rebuild.specs.declared.planning.Rebuilt.{Rebuilt}
+use Rattle.xfs_rename.specs.xfs_request.Chunks.{group_asked, inodes_wanted}
+use Rattle.xfs_rename.specs.xfs_request.Requests.{volume_wanted}
+use Rattle.xfs_rename.specs.xfs_request.Slots.{wanted_slots}
+use Rattle.xfs_rename.specs.xfs_request.declared.seen.SlotSeen.{SlotSeen}
+use Rattle.xfs_rename.specs.xfs_requested.Handed.{IsKeptOf}
+use Rattle.xfs_rename.proofs.xfs_requested.Just.{keeps_just}
+use Rattle.xfs_rename.proofs.xfs_requested.Used.{asked_due}
+use Rattle.xfs_rename.specs.xfs_rebuild.Names as Names
+use Rattle.xfs_rename.specs.xfs_rebuild.Names.{needs_names}
+use Rattle.xfs_rename.specs.xfs_rebuild.Rebuilds.{Ground, IsRebuildOf, asked}
+use Rattle.xfs_rename.specs.xfs_rebuild.declared.planning.Rebuilt.{Rebuilt}
 use Rattle.xfs_restored.specs.Rewriting.{IsRewritten}
 use Rattle.xfs_restored.proofs.Logs.{evidence_log_due}
 use Rattle.xfs_restored.proofs.Standing.{stands}

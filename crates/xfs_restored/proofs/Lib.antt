@@ -98,3 +98,4 @@ pub mod StayingOf
 pub mod Joined
 pub mod ProtectedFiles
 pub mod Relinked
+pub use Rattle.xfs_views.proofs as xfs_views

@@ -7,13 +7,13 @@ use Rattle.xfs_geom.specs.Features.{or_else}
 use Rattle.xfs_geom.specs.Volumes.{Volume}
 use Rattle.xfs_volume.specs.declared.files.FileRec.{FileRec}
 use Rattle.xfs_views.proofs.Members.{Member}
-use Rattle.xfs_changes.specs.Slots.{change_listed, change_of, changes_of, changes_something, free_change}
-use Rattle.xfs_changes.specs.declared.changes.SlotChange.{SlotChange}
-use Rattle.xfs_changes.specs.declared.forks.DirectoryFork.{DirectoryFork}
-use Rattle.xfs_changes.specs.declared.lost_found.Lost.{Lost}
+use Rattle.xfs_rename.specs.xfs_changes.Slots.{change_listed, change_of, changes_of, changes_something, free_change}
+use Rattle.xfs_rename.specs.xfs_changes.declared.changes.SlotChange.{SlotChange}
+use Rattle.xfs_rename.specs.xfs_changes.declared.forks.DirectoryFork.{DirectoryFork}
+use Rattle.xfs_rename.specs.xfs_changes.declared.lost_found.Lost.{Lost}
 use Rattle.xfs_restored.specs.Changes.{ChangesAscend, LinksAscend, change_if, first_change, inodes_taken}
 use Rattle.xfs_restored.proofs.Changing.{none_changed}
-use Rattle.xfs_built.proofs.Fronts.{all_append}
+use Rattle.xfs_rename.proofs.xfs_built.Fronts.{all_append}
 
 -- changes in front of others
 first_append : (xs ys : List SlotChange) (ino : ℕ) → first_change (xs ++ ys) ino ≡ or_else (first_change xs ino) (first_change ys ino)

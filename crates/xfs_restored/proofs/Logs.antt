@@ -11,22 +11,22 @@ use Rattle.xfs_image.specs.Consistent.{IsElected, backup_agrees}
 use Rattle.xfs_image.specs.Groups.{groups_read}
 use Rattle.xfs_image.specs.View.{counts_of, log_of}
 use Rattle.xfs_render.specs.Plans.{planned}
-use Rattle.xfs_scan.specs.Evidence.{IsEvidence}
-use Rattle.xfs_scan.specs.declared.evidence.Evidence.{Evidence}
-use Rattle.xfs_made.specs.Groups.{due_groups}
+use Rattle.xfs_rename.specs.xfs_scan.Evidence.{IsEvidence}
+use Rattle.xfs_rename.specs.xfs_scan.declared.evidence.Evidence.{Evidence}
+use Rattle.xfs_rename.specs.xfs_made.Groups.{due_groups}
 use Rattle.xfs_views.proofs.LsnsStay.{log_stays}
-use Rattle.xfs_made.proofs.Groups.{groups_stand, log_stands}
-use Rattle.xfs_made.proofs.Supers.{backups_agree, counts_stand, primary_stands}
-use Rattle.xfs_made.specs.Standing.{IsStanding, agf_crc_at, agi_crc_at}
-use Rattle.xfs_request.specs.Chunks.{inodes_wanted}
-use Rattle.xfs_request.specs.Cycles.{due_cycle, kept_lsns}
-use Rattle.xfs_request.specs.Requests.{volume_wanted}
-use Rattle.xfs_made.proofs.OnceLists.{all_range}
-use Rattle.xfs_rebuild.specs.Bytes.{file_lsns}
-use Rattle.xfs_rebuild.specs.Rebuilds.{Ground, IsPlannedOn, IsRebuildOf, asked}
-use Rattle.xfs_rebuild.specs.declared.planning.Rebuilt.{Rebuilt}
+use Rattle.xfs_rename.proofs.xfs_made.Groups.{groups_stand, log_stands}
+use Rattle.xfs_rename.proofs.xfs_made.Supers.{backups_agree, counts_stand, primary_stands}
+use Rattle.xfs_rename.specs.xfs_made.Standing.{IsStanding, agf_crc_at, agi_crc_at}
+use Rattle.xfs_rename.specs.xfs_request.Chunks.{inodes_wanted}
+use Rattle.xfs_rename.specs.xfs_request.Cycles.{due_cycle, kept_lsns}
+use Rattle.xfs_rename.specs.xfs_request.Requests.{volume_wanted}
+use Rattle.xfs_rename.proofs.xfs_made.OnceLists.{all_range}
+use Rattle.xfs_rename.specs.xfs_rebuild.Bytes.{file_lsns}
+use Rattle.xfs_rename.specs.xfs_rebuild.Rebuilds.{Ground, IsPlannedOn, IsRebuildOf, asked}
+use Rattle.xfs_rename.specs.xfs_rebuild.declared.planning.Rebuilt.{Rebuilt}
 use Rattle.xfs_restored.specs.Rewriting.{IsRewritten}
-use Rattle.xfs_made.specs.Unused.{IsOfLog}
+use Rattle.xfs_rename.specs.xfs_made.Unused.{IsOfLog}
 use Rattle.xfs_restored.proofs.Placed.{log_left}
 use Rattle.xfs_restored.proofs.Standing.{others_stay, stands}
 use Rattle.xfs_restored.proofs.Staying.{off_list}

@@ -16,9 +16,9 @@ use Rattle.xfs_names.specs.Place.{free_inode, inodes_from, is_free_inode, new_pl
 use Rattle.xfs_names.specs.declared.place.LostPlace.{LostPlace}
 use Rattle.xfs_names.specs.declared.place.LostPlace.TheVariants as place
 use Rattle.xfs_links.specs.Together.{old_lost, orphans_of}
-use Rattle.xfs_rebuild.specs.declared.names_due.NamesDue.{NamesDue}
+use Rattle.xfs_rename.specs.xfs_rebuild.declared.names_due.NamesDue.{NamesDue}
 use Rattle.xfs_rename.specs.Lost.{cluster_found, first_added, lost_due, lost_in, place_due}
-use Rattle.xfs_changes.specs.Nodes.{first_of_cluster, firsts_of_clusters, nodes_of_files}
+use Rattle.xfs_rename.specs.xfs_changes.Nodes.{first_of_cluster, firsts_of_clusters, nodes_of_files}
 use Rattle.xfs_rename.specs.Renames.{IsRenamed}
 use Rattle.xfs_rename.specs.Settled.{settled, with_number_in_order, with_numbers}
 use Rattle.xfs_rename.specs.declared.planning.Renamed.{Renamed}

@@ -23,12 +23,12 @@ use Rattle.xfs_place.specs.declared.wanted.Wanted.{Wanted}
 use Rattle.xfs_views.proofs.Members.{Member, all_members, contains, flat_member, map_member, member_all, member_either, member_left, member_map, member_right}
 use Rattle.xfs_render.specs.Slots.{IsSlotDue}
 use Rattle.xfs_render.specs.declared.wanted_slots.SlotWanted.{SlotWanted}
-use Rattle.xfs_scan.specs.declared.evidence.Evidence.{Evidence}
+use Rattle.xfs_rename.specs.xfs_scan.declared.evidence.Evidence.{Evidence}
 use Rattle.xfs_space.specs.Owners.{file_runs}
-use Rattle.xfs_made.specs.Groups.{due_groups}
-use Rattle.xfs_made.proofs.Entries.{chains_kept}
-use Rattle.xfs_made.proofs.KeptLaws.{both_kept}
-use Rattle.xfs_made.proofs.Lsns.{lsns_stand}
+use Rattle.xfs_rename.specs.xfs_made.Groups.{due_groups}
+use Rattle.xfs_rename.proofs.xfs_made.Entries.{chains_kept}
+use Rattle.xfs_rename.proofs.xfs_made.KeptLaws.{both_kept}
+use Rattle.xfs_rename.proofs.xfs_made.Lsns.{lsns_stand}
 use Rattle.xfs_volume.specs.Laws.{AreKept}
 use Rattle.xfs_volume.specs.Names.{type_of}
 use Rattle.xfs_volume.specs.declared.catalogs.BlockLsn.{BlockLsn}
@@ -36,26 +36,26 @@ use Rattle.xfs_volume.specs.declared.files.FileRec.{FileRec}
 use Rattle.xfs_volume.specs.declared.groups.GroupRec.{GroupRec}
 use Rattle.xfs_salvage.specs.Kept.{run_of_cluster}
 use Rattle.xfs_salvage.specs.declared.found.Salvaged.{Salvaged}
-use Rattle.xfs_request.specs.Chunks.{inodes_wanted}
-use Rattle.xfs_request.specs.Cycles.{kept_lsns, lsn_listed}
-use Rattle.xfs_rebuild.specs.Bytes.{file_lsns}
-use Rattle.xfs_rebuild.specs.Names as Names
-use Rattle.xfs_rebuild.specs.Names.{linked_files}
-use Rattle.xfs_rebuild.specs.declared.names_due.NamesDue.{NamesDue}
+use Rattle.xfs_rename.specs.xfs_request.Chunks.{inodes_wanted}
+use Rattle.xfs_rename.specs.xfs_request.Cycles.{kept_lsns, lsn_listed}
+use Rattle.xfs_rename.specs.xfs_rebuild.Bytes.{file_lsns}
+use Rattle.xfs_rename.specs.xfs_rebuild.Names as Names
+use Rattle.xfs_rename.specs.xfs_rebuild.Names.{linked_files}
+use Rattle.xfs_rename.specs.xfs_rebuild.declared.names_due.NamesDue.{NamesDue}
 use Rattle.xfs_restored.specs.DueFiles.{stated_crc}
 use Rattle.xfs_restored.specs.Logs.{IsLogDue, numbers_kept}
 use Rattle.xfs_restored.proofs.FileLsns.{of_order}
 use Rattle.xfs_restored.proofs.WrittenHeads.{due_clean, number_behind, zero_behind}
-use Rattle.xfs_built.specs.Extents.{extent_of_run}
+use Rattle.xfs_rename.specs.xfs_built.Extents.{extent_of_run}
 use Rattle.xfs_rename.specs.Lost.{lost_due}
-use Rattle.xfs_built.specs.Asks.{stands_in_blocks}
+use Rattle.xfs_rename.specs.xfs_built.Asks.{stands_in_blocks}
 use Rattle.xfs_rename.specs.Objects.{wanted_with}
 use Rattle.xfs_rename.specs.Renames.{old_files, placed_forks, renamed_slots, renamed_wanted}
-use Rattle.xfs_changes.specs.Rooms.{fork_rooms}
+use Rattle.xfs_rename.specs.xfs_changes.Rooms.{fork_rooms}
 use Rattle.xfs_rename.specs.Settled.{settled, staying_file}
 use Rattle.xfs_rename.specs.declared.planning.Renamed.{Renamed}
 use Rattle.xfs_naming.specs.Naming.{file_at}
-use Rattle.xfs_built.specs.Directories.{BuiltRuns, HasOwnCounts, StandsInRuns}
+use Rattle.xfs_rename.specs.xfs_built.Directories.{BuiltRuns, HasOwnCounts, StandsInRuns}
 use Rattle.xfs_restored.specs.Renamed.{HoldsBuilt}
 use Rattle.xfs_restored.proofs.DueSlots.{slots_due}
 use Rattle.xfs_restored.proofs.HeldPlans.{others_stay}

@@ -21,17 +21,17 @@ use Rattle.xfs_render.specs.Slots.{DropsAttrs, IsBased, IsMadeSlot, IsSlotDue, S
 use Rattle.xfs_render.specs.declared.wanted_slots.SlotBase.{SlotBase}
 use Rattle.xfs_render.specs.declared.wanted_slots.SlotBase.TheVariants as Base
 use Rattle.xfs_render.specs.declared.wanted_slots.SlotWanted.{SlotWanted}
-use Rattle.xfs_made.proofs.Numbers.{number_in_part}
+use Rattle.xfs_rename.proofs.xfs_made.Numbers.{number_in_part}
 use Rattle.xfs_space.proofs.RecordedMaps.{group_inside}
 use Rattle.xfs_volume.specs.declared.cores.Core.{Core}
 use Rattle.xfs_salvage.specs.declared.found.Salvaged.{Salvaged}
-use Rattle.xfs_request.specs.Cycles.{keeps_lsn, kept_lsns, lsn_listed}
-use Rattle.xfs_request.specs.declared.seen.SlotSeen.{SlotSeen}
-use Rattle.xfs_requested.proofs.Chunked.{IsHalf}
+use Rattle.xfs_rename.specs.xfs_request.Cycles.{keeps_lsn, kept_lsns, lsn_listed}
+use Rattle.xfs_rename.specs.xfs_request.declared.seen.SlotSeen.{SlotSeen}
+use Rattle.xfs_rename.proofs.xfs_requested.Chunked.{IsHalf}
 use Rattle.xfs_restored.specs.Kept.{all_slots_seen, slot_seen}
-use Rattle.xfs_built.proofs.SlotNumbers.{slot_back, slot_lsn}
+use Rattle.xfs_rename.proofs.xfs_built.SlotNumbers.{slot_back, slot_lsn}
 use Rattle.xfs_restored.specs.StayingNumbers.{IsMadeAnew, IsStayingSlot, StaysKept}
-use Rattle.xfs_built.specs.Bases.{StartsAtZero}
+use Rattle.xfs_rename.specs.xfs_built.Bases.{StartsAtZero}
 
 abbrev lsn_of : Core → ℕ
 lsn_of core = core.lsn

@@ -13,15 +13,15 @@ use Rattle.xfs_volume.specs.declared.files.FileRec.{FileRec}
 use Rattle.xfs_render.specs.Slots.{IsMadeSlot}
 use Rattle.xfs_render.specs.declared.wanted_slots.SlotBase.TheVariants.{Fresh}
 use Rattle.xfs_render.specs.declared.wanted_slots.SlotWanted.{SlotWanted}
-use Rattle.xfs_request.specs.Fresh.{new_root_core, new_root_fork, new_root_slot, new_system_core, new_system_slot}
-use Rattle.xfs_rebuild.specs.Names.{new_file}
+use Rattle.xfs_rename.specs.xfs_request.Fresh.{new_root_core, new_root_fork, new_root_slot, new_system_core, new_system_slot}
+use Rattle.xfs_rename.specs.xfs_rebuild.Names.{new_file}
 use Rattle.xfs_restored.specs.DueFiles.{linked_core}
 use Rattle.xfs_restored.proofs.Changes.{links_read}
 use Rattle.xfs_restored.proofs.Fresh.{empty_file, made_root, root_made_reads, system_made_reads}
-use Rattle.xfs_built.specs.Extents.{extent_of_run}
-use Rattle.xfs_changes.specs.Forks.{extents_fork, short_fork}
-use Rattle.xfs_built.specs.Asks.{stands_in_blocks}
-use Rattle.xfs_built.specs.Directories.{BuiltRuns}
+use Rattle.xfs_rename.specs.xfs_built.Extents.{extent_of_run}
+use Rattle.xfs_rename.specs.xfs_changes.Forks.{extents_fork, short_fork}
+use Rattle.xfs_rename.specs.xfs_built.Asks.{stands_in_blocks}
+use Rattle.xfs_rename.specs.xfs_built.Directories.{BuiltRuns}
 use Rattle.xfs_restored.specs.Reading.{IsFreshDirectory, forked_core, forked_file, fresh_directory_slot}
 use Rattle.xfs_restored.proofs.FreshSlots.{fresh_blocks, fresh_made, fresh_short}
 use Rattle.xfs_restored.specs.Relinking.{extents_built}

@@ -14,10 +14,10 @@ use Rattle.xfs_image.specs.Candidates.{candidates}
 use Rattle.xfs_image.specs.Claims.{candidate_files}
 use Rattle.xfs_views.specs.Standing.{stands}
 use Rattle.xfs_views.proofs.Members.{Member, filter_member, member_filter}
-use Rattle.xfs_scan.specs.declared.evidence.Evidence.{Evidence}
+use Rattle.xfs_rename.specs.xfs_scan.declared.evidence.Evidence.{Evidence}
 use Rattle.xfs_salvage.specs.Kept.{claims_held, fresh_among, is_kept_file, kept_files, own_inodes}
-use Rattle.xfs_request.specs.Fresh.{new_root_core, new_system_core}
-use Rattle.xfs_rebuild.specs.declared.names_due.NamesDue.{NamesDue}
+use Rattle.xfs_rename.specs.xfs_request.Fresh.{new_root_core, new_system_core}
+use Rattle.xfs_rename.specs.xfs_rebuild.declared.names_due.NamesDue.{NamesDue}
 use Rattle.xfs_rename.specs.declared.planning.Renamed.{Renamed}
 use Rattle.xfs_restored.specs.DueFiles.{new_core}
 use Rattle.xfs_restored.specs.Relinking.{IsRelinked}

@@ -20,11 +20,11 @@ use Rattle.xfs_links.proofs.Joined.{any_through}
 use Rattle.xfs_names.specs.Having.{node_of}
 use Rattle.xfs_salvage.proofs.Ascending.{filtered}
 use Rattle.xfs_views.proofs.Members.{Member, any_member, map_member, member_any, member_map}
-use Rattle.xfs_scan.specs.declared.evidence.Evidence.{Evidence}
-use Rattle.xfs_rebuild.specs.Names as Names
-use Rattle.xfs_rebuild.specs.declared.names_due.NamesDue.{NamesDue}
+use Rattle.xfs_rename.specs.xfs_scan.declared.evidence.Evidence.{Evidence}
+use Rattle.xfs_rename.specs.xfs_rebuild.Names as Names
+use Rattle.xfs_rename.specs.xfs_rebuild.declared.names_due.NamesDue.{NamesDue}
 use Rattle.xfs_rename.specs.Lost.{no_inode}
-use Rattle.xfs_changes.specs.Nodes.{nodes_of_files}
+use Rattle.xfs_rename.specs.xfs_changes.Nodes.{nodes_of_files}
 use Rattle.xfs_rename.specs.declared.planning.Renamed.{Renamed}
 use Rattle.xfs_restored.specs.DueFiles.{new_core}
 use Rattle.xfs_restored.specs.Relinking.{IsRelinked}

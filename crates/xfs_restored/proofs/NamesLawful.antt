@@ -20,8 +20,8 @@ use Rattle.xfs_links.proofs.ByDirectory.{as_many_untyped}
 use Rattle.xfs_links.proofs.Settling as Settling
 use Rattle.xfs_names.specs.Having.{HasWanted}
 use Rattle.xfs_names.proofs.Having as Having
-use Rattle.xfs_scan.specs.declared.evidence.Evidence.{Evidence}
-use Rattle.xfs_rebuild.specs.declared.names_due.NamesDue.{NamesDue}
+use Rattle.xfs_rename.specs.xfs_scan.declared.evidence.Evidence.{Evidence}
+use Rattle.xfs_rename.specs.xfs_rebuild.declared.names_due.NamesDue.{NamesDue}
 use Rattle.xfs_rename.specs.Lost.{lost_due}
 use Rattle.xfs_rename.specs.declared.planning.Renamed.{Renamed}
 use Rattle.xfs_restored.specs.Relinking.{IsRelinked, renamed_dirs, renamed_entries, renamed_files}
@@ -29,7 +29,7 @@ use Rattle.xfs_restored.proofs.DueNodes as Due
 use Rattle.xfs_restored.proofs.EntriesAlike.{IsTyped, counted_untyped, entries_alike, entries_grouped, entries_typed}
 use Rattle.xfs_restored.proofs.KeptFew.{entries_few}
 use Rattle.xfs_restored.proofs.NamedNodes.{are_entries, are_files, root_directory, system_plain}
-use Rattle.xfs_built.proofs.NamingKept.{naming_kept}
+use Rattle.xfs_rename.proofs.xfs_built.NamingKept.{naming_kept}
 use Rattle.xfs_restored.proofs.SystemFiles.{system_file}
 
 module _ (g : Geometry) (sector : List ℕ) (s : Stamp) (image now : Image) (e : Evidence) (n : NamesDue) (r : Renamed) (has : IsRelinked g sector s image now e n r) where

@@ -19,10 +19,10 @@ use Rattle.xfs_render.specs.Slots.{IsFreeSlot, IsMadeSlot, IsSlotDue, wanted_of}
 use Rattle.xfs_render.specs.declared.wanted_slots.SlotBase.{SlotBase}
 use Rattle.xfs_render.specs.declared.wanted_slots.SlotBase.TheVariants.{Fresh}
 use Rattle.xfs_render.specs.declared.wanted_slots.SlotWanted.{SlotWanted}
-use Rattle.xfs_changes.specs.Slots.{base_made, change_of, changed_alone, changes_of, changes_something, fork_at, free_change, links_held_at, links_set, lost_core, with_changes}
-use Rattle.xfs_changes.specs.declared.changes.SlotChange.{SlotChange}
-use Rattle.xfs_changes.specs.declared.forks.DirectoryFork.{DirectoryFork}
-use Rattle.xfs_changes.specs.declared.lost_found.Lost.{Lost}
+use Rattle.xfs_rename.specs.xfs_changes.Slots.{base_made, change_of, changed_alone, changes_of, changes_something, fork_at, free_change, links_held_at, links_set, lost_core, with_changes}
+use Rattle.xfs_rename.specs.xfs_changes.declared.changes.SlotChange.{SlotChange}
+use Rattle.xfs_rename.specs.xfs_changes.declared.forks.DirectoryFork.{DirectoryFork}
+use Rattle.xfs_rename.specs.xfs_changes.declared.lost_found.Lost.{Lost}
 use Rattle.xfs_restored.specs.Changes.{LinksAscend, SlotsAscend, change_if, first_change, inodes_taken, lost_slot, with_change}
 use Rattle.xfs_restored.proofs.Changing.{changes_wanted}
 use Rattle.xfs_restored.proofs.Links.{changes_ascend, file_change, free_behind}

@@ -18,16 +18,16 @@ use Rattle.xfs_render.specs.Plans.{HoldsPlan}
 use Rattle.xfs_render.specs.Slots.{IsMadeSlot, wanted_of}
 use Rattle.xfs_render.specs.declared.wanted_slots.SlotWanted.{SlotWanted}
 use Rattle.xfs_salvage.specs.Kept.{run_of_cluster}
-use Rattle.xfs_rebuild.specs.declared.names_due.NamesDue.{NamesDue}
+use Rattle.xfs_rename.specs.xfs_rebuild.declared.names_due.NamesDue.{NamesDue}
 use Rattle.xfs_rename.specs.Lost.{added_for, first_added, first_of, is_lost_made, lost_due, new_for, place_due}
-use Rattle.xfs_changes.specs.Nodes.{first_of_cluster}
+use Rattle.xfs_rename.specs.xfs_changes.Nodes.{first_of_cluster}
 use Rattle.xfs_rename.specs.Renames.{IsRenamed, old_files, placed_forks}
-use Rattle.xfs_changes.specs.Slots.{changed_alone, free_change}
+use Rattle.xfs_rename.specs.xfs_changes.Slots.{changed_alone, free_change}
 use Rattle.xfs_rename.specs.Settled.{with_number_in_order, with_numbers}
 use Rattle.xfs_rename.specs.declared.planning.Renamed.{Renamed}
 use Rattle.xfs_restored.specs.Changes.{LinksAscend, SlotsAscend, inodes_taken, lost_slot}
 use Rattle.xfs_restored.proofs.DueSlots.{asked_due, cluster_clear}
-use Rattle.xfs_built.proofs.Joining.{range_split}
+use Rattle.xfs_rename.proofs.xfs_built.Joining.{range_split}
 use Rattle.xfs_restored.proofs.NewCluster.{free_due, free_now, lost_wanted}
 use Rattle.xfs_restored.proofs.Placing.{next_head}
 

@@ -10,11 +10,11 @@ use Rattle.xfs_links.specs.declared.records.NodeRec.{NodeRec}
 use Rattle.xfs_naming.specs.Naming.{NumbersAscend, numbers_of}
 use Rattle.xfs_names.specs.Wanted.{wanted_entries, wanted_nodes, with_links}
 use Rattle.xfs_views.proofs.Members.{Member, contained, contains, map_member, member_any, member_map}
-use Rattle.xfs_scan.specs.declared.evidence.Evidence.{Evidence}
+use Rattle.xfs_rename.specs.xfs_scan.declared.evidence.Evidence.{Evidence}
 use Rattle.xfs_volume.specs.declared.files.FileRec.{FileRec}
-use Rattle.xfs_rebuild.specs.declared.names_due.NamesDue.{NamesDue}
+use Rattle.xfs_rename.specs.xfs_rebuild.declared.names_due.NamesDue.{NamesDue}
 use Rattle.xfs_rename.specs.Lost.{lost_due}
-use Rattle.xfs_changes.specs.Nodes.{nodes_of_files}
+use Rattle.xfs_rename.specs.xfs_changes.Nodes.{nodes_of_files}
 use Rattle.xfs_rename.specs.Renames.{old_files}
 use Rattle.xfs_rename.specs.declared.planning.Renamed.{Renamed}
 use Rattle.xfs_restored.specs.Numbered.{AreNumbered, IsNumberOf, numbers_linked}

@@ -19,14 +19,14 @@ use Rattle.xfs_volume.specs.declared.files.FileRec.{FileRec}
 use Rattle.xfs_volume.specs.Rest.{no_rest}
 use Rattle.xfs_views.proofs.FilesStay.{free_stays}
 use Rattle.xfs_views.proofs.Members.{Member, any_member, filter_member, member_any, member_flat}
-use Rattle.xfs_requested.proofs.Roots.{root_kept}
+use Rattle.xfs_rename.proofs.xfs_requested.Roots.{root_kept}
 use Rattle.xfs_render.specs.Slots.{IsMadeSlot}
 use Rattle.xfs_render.specs.declared.wanted_slots.SlotWanted.{SlotWanted}
 use Rattle.xfs_salvage.specs.Kept.{fresh_among, own_inodes}
 use Rattle.xfs_salvage.specs.declared.found.Salvaged.{Salvaged}
-use Rattle.xfs_request.specs.Fresh.{new_slot, new_root_core, new_root_slot, new_system_core, new_system_slot}
-use Rattle.xfs_request.specs.Slots.{bare_slot, freed_slot, is_free, state_at}
-use Rattle.xfs_request.specs.declared.seen.SlotSeen.{SlotSeen}
+use Rattle.xfs_rename.specs.xfs_request.Fresh.{new_slot, new_root_core, new_root_slot, new_system_core, new_system_slot}
+use Rattle.xfs_rename.specs.xfs_request.Slots.{bare_slot, freed_slot, is_free, state_at}
+use Rattle.xfs_rename.specs.xfs_request.declared.seen.SlotSeen.{SlotSeen}
 use Rattle.xfs_restored.specs.DueFiles.{fresh_file, kept_inodes, stated_crc}
 use Rattle.xfs_restored.specs.Kept.{HasKept, state_read}
 use Rattle.xfs_restored.proofs.Fresh.{freed_reads, made_root, root_made_reads, system_made_reads}

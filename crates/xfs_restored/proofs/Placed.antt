@@ -34,16 +34,16 @@ use Rattle.xfs_render.specs.Rendering.{blocks_in_place, fresh_blocks, is_head, k
 use Rattle.xfs_render.specs.declared.bytes.Bytes.{Bytes}
 use Rattle.xfs_render.specs.declared.plan.Plan.{Plan}
 use Rattle.xfs_salvage.specs.Kept.{run_of_cluster, taken_of}
-use Rattle.xfs_request.specs.Requests.{volume_wanted}
-use Rattle.xfs_rebuild.specs.Places.{has_wanted}
-use Rattle.xfs_rebuild.specs.Rebuilds.{Ground, IsPlannedOn, asked, slots_asked}
-use Rattle.xfs_rebuild.specs.declared.planning.Rebuilt.{Rebuilt}
-use Rattle.xfs_made.specs.Unused.{AreHeadsOrKept, IsHeadOrKept, IsOfLog, IsUnusedBlock}
+use Rattle.xfs_rename.specs.xfs_request.Requests.{volume_wanted}
+use Rattle.xfs_rename.specs.xfs_rebuild.Places.{has_wanted}
+use Rattle.xfs_rename.specs.xfs_rebuild.Rebuilds.{Ground, IsPlannedOn, asked, slots_asked}
+use Rattle.xfs_rename.specs.xfs_rebuild.declared.planning.Rebuilt.{Rebuilt}
+use Rattle.xfs_rename.specs.xfs_made.Unused.{AreHeadsOrKept, IsHeadOrKept, IsOfLog, IsUnusedBlock}
 use Rattle.xfs_restored.specs.InPlace.{IsInPlace}
-use Rattle.xfs_made.proofs.Counting.{taken_on, untaken_on}
+use Rattle.xfs_rename.proofs.xfs_made.Counting.{taken_on, untaken_on}
 use Rattle.xfs_restored.proofs.Kept.{cluster_taken_of, places_apart, places_used, unwanted_off}
-use Rattle.xfs_made.proofs.PlansApart.{all_of_log, head_fixed, head_off_log, kept_off, log_fixed, plans_apart, taken_left, taken_right, taken_unfixed, trees, untaken_both}
-use Rattle.xfs_made.proofs.TreesApart.{AreBehind}
+use Rattle.xfs_rename.proofs.xfs_made.PlansApart.{all_of_log, head_fixed, head_off_log, kept_off, log_fixed, plans_apart, taken_left, taken_right, taken_unfixed, trees, untaken_both}
+use Rattle.xfs_rename.proofs.xfs_made.TreesApart.{AreBehind}
 
 none_new : (xs : List ℕ) → filter (is_taken []) xs ≡ []
 unfolding is_taken

@@ -9,7 +9,7 @@ use Rattle.xfs_geom.specs.Volumes.{Volume, volume_of}
 use Rattle.xfs_geom.specs.declared.geometry.Geometry.{Geometry}
 use Rattle.xfs_geom.specs.declared.records.Run.{Run}
 use Rattle.xfs_dirindex.specs.Mapped.{OffsetsAscend}
-use Rattle.xfs_empty.specs.Planning.{StandsFor}
+use Rattle.xfs_rename.specs.xfs_empty.Planning.{StandsFor}
 use Rattle.xfs_names.specs.declared.building.BuiltDirectory.{BuiltDirectory}
 use Rattle.xfs_names.specs.declared.records.WantedNames.{WantedNames}
 use Rattle.xfs_place.specs.Claims.{ClaimedOnce, IsClaimedRun}
@@ -18,13 +18,13 @@ use Rattle.xfs_names.specs.Built.{fork_room}
 use Rattle.xfs_place.specs.declared.placed.Placed.{Placed}
 use Rattle.xfs_place.specs.declared.wanted.Wanted.{Wanted}
 use Rattle.xfs_render.specs.declared.bytes.Bytes.{Bytes}
-use Rattle.xfs_rebuild.specs.declared.names_due.NamesDue.{NamesDue}
-use Rattle.xfs_built.specs.Asks.{stands_in_blocks}
+use Rattle.xfs_rename.specs.xfs_rebuild.declared.names_due.NamesDue.{NamesDue}
+use Rattle.xfs_rename.specs.xfs_built.Asks.{stands_in_blocks}
 use Rattle.xfs_rename.specs.Objects.{wanted_with}
 use Rattle.xfs_rename.specs.Renames.{renamed_wanted}
-use Rattle.xfs_changes.specs.Rooms.{fork_rooms}
-use Rattle.xfs_built.specs.Directories.{BuiltRuns, HasOwnCounts, StandsInRuns, StandsIn, asks_of_built, built_runs, runs_of_built, with_runs}
-use Rattle.xfs_built.specs.Pieces.{IsLowRun, IsPlacedRun}
+use Rattle.xfs_rename.specs.xfs_changes.Rooms.{fork_rooms}
+use Rattle.xfs_rename.specs.xfs_built.Directories.{BuiltRuns, HasOwnCounts, StandsInRuns, StandsIn, asks_of_built, built_runs, runs_of_built, with_runs}
+use Rattle.xfs_rename.specs.xfs_built.Pieces.{IsLowRun, IsPlacedRun}
 use Rattle.xfs_restored.specs.Reading.{HasFileExtents}
 use Rattle.xfs_restored.specs.Renamed.{HoldsBuilt}
 use Rattle.xfs_restored.proofs.FewRuns.{all_few}

@@ -23,12 +23,12 @@ use Rattle.xfs_claims.specs.Spans.{SpansApart, span_pair, spans_apart, spans_of}
 use Rattle.xfs_place.specs.Claims.{ClaimedOnce}
 use Rattle.xfs_place.specs.Wanted.{IsOffFixed}
 use Rattle.xfs_salvage.proofs.Conditions.{apart_from_once}
-use Rattle.xfs_built.specs.Extents.{extent_of_run}
-use Rattle.xfs_built.specs.Directories.{FitsExtent}
-use Rattle.xfs_built.specs.Pieces.{IsPlacedRun, offsets_in, places_of_runs, run_offsets, run_places}
+use Rattle.xfs_rename.specs.xfs_built.Extents.{extent_of_run}
+use Rattle.xfs_rename.specs.xfs_built.Directories.{FitsExtent}
+use Rattle.xfs_rename.specs.xfs_built.Pieces.{IsPlacedRun, offsets_in, places_of_runs, run_offsets, run_places}
 use Rattle.xfs_restored.specs.Reading.{AreExtents}
 use Rattle.xfs_restored.proofs.Extents.{run_fits}
-use Rattle.xfs_built.proofs.Mapping.{address_leads, length_range}
+use Rattle.xfs_rename.proofs.xfs_built.Mapping.{address_leads, length_range}
 
 module _ (g : Geometry) where
   abbrev v : Volume

@@ -18,7 +18,7 @@ use Rattle.xfs_views.proofs.Members.{all_members}
 use Rattle.xfs_render.specs.Slots.{DropsAttrs, IsMadeSlot, SetsFork, SetsLinks}
 use Rattle.xfs_render.specs.declared.wanted_slots.SlotBase.TheVariants.{Kept}
 use Rattle.xfs_render.specs.declared.wanted_slots.SlotWanted.{SlotWanted}
-use Rattle.xfs_request.specs.Slots.{own_blocks}
+use Rattle.xfs_rename.specs.xfs_request.Slots.{own_blocks}
 use Rattle.xfs_restored.specs.DueFiles.{due_core, linked_core, plain_core}
 use Rattle.xfs_restored.proofs.Changes.{drops_read, links_read, with_core}
 use Rattle.xfs_restored.proofs.Readings.{attrs_have, file_has, stated}

@@ -17,17 +17,17 @@ use Rattle.xfs_place.specs.declared.placed.Placed.{Placed}
 use Rattle.xfs_render.specs.Objects.{HasObjects, asks_with_kind, blocks_of_asks}
 use Rattle.xfs_render.specs.Plans.{HoldsPlan}
 use Rattle.xfs_render.specs.declared.bytes.Bytes.{Bytes}
-use Rattle.xfs_rebuild.specs.declared.names_due.NamesDue.{NamesDue}
-use Rattle.xfs_built.specs.Asks.{objects_of, stands_in_blocks}
+use Rattle.xfs_rename.specs.xfs_rebuild.declared.names_due.NamesDue.{NamesDue}
+use Rattle.xfs_rename.specs.xfs_built.Asks.{objects_of, stands_in_blocks}
 use Rattle.xfs_rename.specs.Objects.{wanted_with}
 use Rattle.xfs_rename.specs.Renames.{IsRenamed, renamed_wanted}
-use Rattle.xfs_changes.specs.Rooms.{fork_rooms}
+use Rattle.xfs_rename.specs.xfs_changes.Rooms.{fork_rooms}
 use Rattle.xfs_rename.specs.declared.planning.Renamed.{Renamed}
-use Rattle.xfs_built.specs.Directories.{BuiltRuns, HasOwnCounts, StandsInRuns, ReadsSo, asks_of_built, built_runs, runs_of_built, with_runs}
+use Rattle.xfs_rename.specs.xfs_built.Directories.{BuiltRuns, HasOwnCounts, StandsInRuns, ReadsSo, asks_of_built, built_runs, runs_of_built, with_runs}
 use Rattle.xfs_restored.specs.Renamed.{HoldsBuilt}
-use Rattle.xfs_built.proofs.Sized.{built_sized}
-use Rattle.xfs_built.proofs.Standing.{directories_stand}
-use Rattle.xfs_built.proofs.Whole.{reads_now, short_reads_now}
+use Rattle.xfs_rename.proofs.xfs_built.Sized.{built_sized}
+use Rattle.xfs_rename.proofs.xfs_built.Standing.{directories_stand}
+use Rattle.xfs_rename.proofs.xfs_built.Whole.{reads_now, short_reads_now}
 
 -- what a plan says of directories, in an image that holds it
 pub holds_built : (g : Geometry) (sector : List ℕ) (s : Stamp) (image : Image) (n : NamesDue) (r : Renamed) (is : IsRenamed g sector s image n r) → CanBeBuilt is.w

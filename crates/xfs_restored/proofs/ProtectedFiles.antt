@@ -14,26 +14,26 @@ use Rattle.xfs_inode.specs.declared.files.FileRead.TheVariants as Reads
 use Rattle.xfs_naming.specs.Naming.{NumbersAscend, file_at, numbers_of}
 use Rattle.xfs_volume.specs.Names.{type_of}
 use Rattle.xfs_volume.specs.declared.files.FileRec.{FileRec}
-use Rattle.xfs_scan.specs.declared.evidence.Evidence.{Evidence}
+use Rattle.xfs_rename.specs.xfs_scan.declared.evidence.Evidence.{Evidence}
 use Rattle.xfs_views.proofs.FilesStay as FilesStay
 use Rattle.xfs_views.specs.SameFiles.{HasSameClaims}
-use Rattle.xfs_requested.proofs.Candidates.{image_can}
-use Rattle.xfs_requested.proofs.Ordered.{files_of_volume_ascend}
-use Rattle.xfs_requested.proofs.Protected.{protected_stays}
+use Rattle.xfs_rename.proofs.xfs_requested.Candidates.{image_can}
+use Rattle.xfs_rename.proofs.xfs_requested.Ordered.{files_of_volume_ascend}
+use Rattle.xfs_rename.proofs.xfs_requested.Protected.{protected_stays}
 use Rattle.xfs_names.specs.declared.building.BuiltDirectory.{BuiltDirectory}
 use Rattle.xfs_names.specs.declared.records.WantedNames.{WantedNames}
 use Rattle.xfs_place.specs.declared.placed.Placed.{Placed}
 use Rattle.xfs_views.proofs.Members.{Member, any_member}
-use Rattle.xfs_rebuild.specs.Rebuilds.{Ground}
-use Rattle.xfs_rebuild.specs.declared.names_due.NamesDue.{NamesDue}
+use Rattle.xfs_rename.specs.xfs_rebuild.Rebuilds.{Ground}
+use Rattle.xfs_rename.specs.xfs_rebuild.declared.names_due.NamesDue.{NamesDue}
 use Rattle.xfs_rename.specs.Lost.{lost_due}
 use Rattle.xfs_rename.specs.Renames.{old_files}
-use Rattle.xfs_changes.specs.declared.lost_found.Lost.{Lost}
+use Rattle.xfs_rename.specs.xfs_changes.declared.lost_found.Lost.{Lost}
 use Rattle.xfs_rename.specs.declared.planning.Renamed.{Renamed}
-use Rattle.xfs_built.specs.Directories.{BuiltRuns, with_runs}
-use Rattle.xfs_request.specs.Slots.{is_bare, own_blocks, state_at}
-use Rattle.xfs_request.specs.declared.seen.SlotSeen.{SlotSeen}
-use Rattle.xfs_requested.specs.Handed.{IsKeptOf}
+use Rattle.xfs_rename.specs.xfs_built.Directories.{BuiltRuns, with_runs}
+use Rattle.xfs_rename.specs.xfs_request.Slots.{is_bare, own_blocks, state_at}
+use Rattle.xfs_rename.specs.xfs_request.declared.seen.SlotSeen.{SlotSeen}
+use Rattle.xfs_rename.specs.xfs_requested.Handed.{IsKeptOf}
 use Rattle.xfs_restored.specs.DueFiles.{due_core, stated_crc}
 use Rattle.xfs_restored.specs.Kept.{state_read}
 use Rattle.xfs_restored.proofs.Wanted.{one_alone, state_is}

@@ -28,22 +28,22 @@ use Rattle.xfs_render.specs.Rendering.{blocks_in_place, kept_blocks, log_places}
 use Rattle.xfs_render.specs.declared.bytes.Bytes.{Bytes}
 use Rattle.xfs_render.specs.declared.plan.Plan.{Plan}
 use Rattle.xfs_render.specs.declared.wanted_slots.SlotWanted.{SlotWanted}
-use Rattle.xfs_scan.specs.declared.evidence.Evidence.{Evidence}
-use Rattle.xfs_made.specs.Groups.{due_groups}
+use Rattle.xfs_rename.specs.xfs_scan.declared.evidence.Evidence.{Evidence}
+use Rattle.xfs_rename.specs.xfs_made.Groups.{due_groups}
 use Rattle.xfs_views.proofs.LsnsStay.{log_stays}
-use Rattle.xfs_made.proofs.Groups.{groups_stand, log_stands}
-use Rattle.xfs_made.proofs.Supers.{backups_agree, counts_stand, primary_stands}
-use Rattle.xfs_made.specs.Standing.{IsStanding, agf_crc_at, agi_crc_at}
-use Rattle.xfs_request.specs.Chunks.{inodes_wanted}
-use Rattle.xfs_request.specs.Cycles.{due_cycle}
-use Rattle.xfs_made.proofs.OnceLists.{all_range}
+use Rattle.xfs_rename.proofs.xfs_made.Groups.{groups_stand, log_stands}
+use Rattle.xfs_rename.proofs.xfs_made.Supers.{backups_agree, counts_stand, primary_stands}
+use Rattle.xfs_rename.specs.xfs_made.Standing.{IsStanding, agf_crc_at, agi_crc_at}
+use Rattle.xfs_rename.specs.xfs_request.Chunks.{inodes_wanted}
+use Rattle.xfs_rename.specs.xfs_request.Cycles.{due_cycle}
+use Rattle.xfs_rename.proofs.xfs_made.OnceLists.{all_range}
 use Rattle.xfs_salvage.specs.Kept.{run_of_cluster}
 use Rattle.xfs_salvage.specs.declared.found.Salvaged.{Salvaged}
-use Rattle.xfs_rebuild.specs.Places.{old_places}
-use Rattle.xfs_rebuild.specs.declared.names_due.NamesDue.{NamesDue}
-use Rattle.xfs_made.specs.Unused.{IsFreshFor, IsHeadOrKept, IsOfLog}
+use Rattle.xfs_rename.specs.xfs_rebuild.Places.{old_places}
+use Rattle.xfs_rename.specs.xfs_rebuild.declared.names_due.NamesDue.{NamesDue}
+use Rattle.xfs_rename.specs.xfs_made.Unused.{IsFreshFor, IsHeadOrKept, IsOfLog}
 use Rattle.xfs_restored.proofs.Kept.{places_used}
-use Rattle.xfs_made.proofs.PlansApart.{head_off_log, log_fixed, plans_fresh, taken_right, taken_unfixed}
+use Rattle.xfs_rename.proofs.xfs_made.PlansApart.{head_off_log, log_fixed, plans_fresh, taken_right, taken_unfixed}
 use Rattle.xfs_restored.proofs.Standing.{same_size}
 use Rattle.xfs_restored.proofs.Staying.{off_list}
 use Rattle.xfs_restored.specs.Logs.{IsLogDue, numbers_kept}

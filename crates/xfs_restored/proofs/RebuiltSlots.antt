@@ -33,18 +33,18 @@ use Rattle.xfs_views.proofs.NamedClaims.{attr_claimed}
 use Rattle.xfs_views.proofs.FilesStay.{block_is}
 use Rattle.xfs_views.proofs.Members.{Member}
 use Rattle.xfs_render.specs.Slots.{IsMadeSlot}
-use Rattle.xfs_request.specs.Slots.{own_blocks}
+use Rattle.xfs_rename.specs.xfs_request.Slots.{own_blocks}
 use Rattle.xfs_restored.specs.DueFiles.{due_core, linked_core, plain_core}
 use Rattle.xfs_restored.proofs.Changes.{attr_is}
 use Rattle.xfs_restored.proofs.Readings.{HasAttrs, HasData, attrs_have, bare_is, file_has}
-use Rattle.xfs_changes.specs.Forks.{attribute_blocks, extents_fork, short_fork}
-use Rattle.xfs_built.specs.Extents.{extent_of_run}
-use Rattle.xfs_built.specs.Asks.{stands_in_blocks}
+use Rattle.xfs_rename.specs.xfs_changes.Forks.{attribute_blocks, extents_fork, short_fork}
+use Rattle.xfs_rename.specs.xfs_built.Extents.{extent_of_run}
+use Rattle.xfs_rename.specs.xfs_built.Asks.{stands_in_blocks}
 use Rattle.xfs_rename.specs.Settled.{without_data}
-use Rattle.xfs_built.specs.Directories.{BuiltRuns}
+use Rattle.xfs_rename.specs.xfs_built.Directories.{BuiltRuns}
 use Rattle.xfs_restored.specs.Reading.{HasFileExtents, KeepsAttributes, ReadsBefore, StandsBeside, forked_core, forked_file, fork_contents, rebuilt_file}
 use Rattle.xfs_restored.proofs.KeptSlots.{kept_blocks, kept_short}
-use Rattle.xfs_built.proofs.Mapping.{address_leads}
+use Rattle.xfs_rename.proofs.xfs_built.Mapping.{address_leads}
 use Rattle.xfs_restored.specs.Relinking.{extents_built}
 use Rattle.xfs_restored.proofs.PlainSlots.{IsLinked, ReadsKept, drop_due, kept_due}
 

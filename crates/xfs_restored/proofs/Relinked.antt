@@ -9,14 +9,14 @@ use Rattle.xfs_image.specs.Claims.{candidate_files}
 use Rattle.xfs_image.specs.Consistent.{IsConsistent}
 use Rattle.xfs_image.specs.Keeping.{Keeps, Protected}
 use Rattle.xfs_laws.specs.Lawful.{broken_law}
-use Rattle.xfs_scan.specs.Evidence.{IsEvidence}
-use Rattle.xfs_scan.specs.declared.evidence.Evidence.{Evidence}
-use Rattle.xfs_requested.proofs.Candidates.{image_can}
+use Rattle.xfs_rename.specs.xfs_scan.Evidence.{IsEvidence}
+use Rattle.xfs_rename.specs.xfs_scan.declared.evidence.Evidence.{Evidence}
+use Rattle.xfs_rename.proofs.xfs_requested.Candidates.{image_can}
 use Rattle.xfs_place.specs.declared.placed.Placed.{Placed}
-use Rattle.xfs_rebuild.specs.Rebuilds.{Ground, IsFound, IsGround}
-use Rattle.xfs_rebuild.specs.declared.names_due.NamesDue.{NamesDue}
+use Rattle.xfs_rename.specs.xfs_rebuild.Rebuilds.{Ground, IsFound, IsGround}
+use Rattle.xfs_rename.specs.xfs_rebuild.declared.names_due.NamesDue.{NamesDue}
 use Rattle.xfs_rename.specs.declared.planning.Renamed.{Renamed}
-use Rattle.xfs_made.specs.Standing.{agf_crc_at, agi_crc_at}
+use Rattle.xfs_rename.specs.xfs_made.Standing.{agf_crc_at, agi_crc_at}
 use Rattle.xfs_restored.proofs.Handed.{kept_of_image}
 use Rattle.xfs_restored.specs.Catalogs.{renamed_catalog, renamed_groups}
 use Rattle.xfs_restored.specs.Names.{HasWantedNames}

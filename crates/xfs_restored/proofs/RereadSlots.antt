@@ -23,16 +23,16 @@ use Rattle.xfs_views.specs.SameFiles.{HasSameClaims}
 use Rattle.xfs_views.proofs.FilesStay.{slot_claimed}
 use Rattle.xfs_views.proofs.SlotsRead.{named_same}
 use Rattle.xfs_views.proofs.Members.{Member, all_members, contains, member_all}
-use Rattle.xfs_requested.proofs.Candidates.{image_can}
-use Rattle.xfs_requested.proofs.Ordered.{files_of_volume_ascend}
+use Rattle.xfs_rename.proofs.xfs_requested.Candidates.{image_can}
+use Rattle.xfs_rename.proofs.xfs_requested.Ordered.{files_of_volume_ascend}
 use Rattle.xfs_render.specs.Slots.{DropsAttrs, IsMadeSlot, SetsLinks}
 use Rattle.xfs_render.specs.declared.wanted_slots.SlotBase.TheVariants as Base
 use Rattle.xfs_render.specs.declared.wanted_slots.SlotWanted.{SlotWanted}
 use Rattle.xfs_salvage.specs.declared.found.Salvaged.{Salvaged}
-use Rattle.xfs_request.specs.Slots.{attrs_wanted, file_slot, is_bare, kept_slot, links_due, nlink_wanted, own_blocks, slot_wanted, state_at}
-use Rattle.xfs_request.specs.declared.seen.SlotSeen.{SlotSeen}
-use Rattle.xfs_request.specs.declared.seen.SlotState.{SlotState}
-use Rattle.xfs_request.specs.declared.seen.SlotState.TheVariants as State
+use Rattle.xfs_rename.specs.xfs_request.Slots.{attrs_wanted, file_slot, is_bare, kept_slot, links_due, nlink_wanted, own_blocks, slot_wanted, state_at}
+use Rattle.xfs_rename.specs.xfs_request.declared.seen.SlotSeen.{SlotSeen}
+use Rattle.xfs_rename.specs.xfs_request.declared.seen.SlotState.{SlotState}
+use Rattle.xfs_rename.specs.xfs_request.declared.seen.SlotState.TheVariants as State
 use Rattle.xfs_restored.specs.DueFiles.{due_core, due_file, kept_inodes, linked_core, plain_core, stated_crc}
 use Rattle.xfs_restored.specs.Kept.{HasKept, state_read}
 use Rattle.xfs_restored.proofs.Changes.{drops_read, links_read, with_core}

@@ -12,13 +12,13 @@ use Rattle.xfs_image.specs.Files.{inodes_of}
 use Rattle.xfs_image.specs.Lsns.{lsns_read}
 use Rattle.xfs_image.specs.View.{log_of, view}
 use Rattle.xfs_place.specs.declared.placed.Placed.{Placed}
-use Rattle.xfs_scan.specs.Evidence.{IsEvidence}
-use Rattle.xfs_scan.specs.declared.evidence.Evidence.{Evidence}
-use Rattle.xfs_made.proofs.Catalogs.{reads_as}
-use Rattle.xfs_made.specs.Volumes.{Checksums}
-use Rattle.xfs_request.specs.Requests.{volume_wanted}
-use Rattle.xfs_rebuild.specs.Rebuilds.{Ground, IsRebuildOf}
-use Rattle.xfs_rebuild.specs.declared.planning.Rebuilt.{Rebuilt}
+use Rattle.xfs_rename.specs.xfs_scan.Evidence.{IsEvidence}
+use Rattle.xfs_rename.specs.xfs_scan.declared.evidence.Evidence.{Evidence}
+use Rattle.xfs_rename.proofs.xfs_made.Catalogs.{reads_as}
+use Rattle.xfs_rename.specs.xfs_made.Volumes.{Checksums}
+use Rattle.xfs_rename.specs.xfs_request.Requests.{volume_wanted}
+use Rattle.xfs_rename.specs.xfs_rebuild.Rebuilds.{Ground, IsRebuildOf}
+use Rattle.xfs_rename.specs.xfs_rebuild.declared.planning.Rebuilt.{Rebuilt}
 use Rattle.xfs_restored.specs.Rewriting.{IsRewritten}
 use Rattle.xfs_restored.proofs.Logs.{backups_rebuilt, counts_rebuilt, groups_rebuilt, super_rebuilt}
 use Rattle.xfs_restored.specs.DueFiles.{kept_inodes, rebuilt_dirs}

@@ -10,11 +10,11 @@ use Rattle.xfs_links.specs.declared.records.NodeRec.{NodeRec}
 use Rattle.xfs_naming.specs.Naming.{NumbersAscend}
 use Rattle.xfs_names.specs.Wanted.{directory_node, wanted_entries, wanted_nodes, with_directory, with_links}
 use Rattle.xfs_names.specs.declared.records.WantedNames.{WantedNames}
-use Rattle.xfs_rebuild.specs.declared.names_due.NamesDue.{NamesDue}
+use Rattle.xfs_rename.specs.xfs_rebuild.declared.names_due.NamesDue.{NamesDue}
 use Rattle.xfs_rename.specs.Lost.{lost_due}
-use Rattle.xfs_changes.specs.Nodes.{nodes_of_files}
+use Rattle.xfs_rename.specs.xfs_changes.Nodes.{nodes_of_files}
 use Rattle.xfs_rename.specs.Settled.{AreWanted}
-use Rattle.xfs_changes.specs.declared.lost_found.Lost.{Lost}
+use Rattle.xfs_rename.specs.xfs_changes.declared.lost_found.Lost.{Lost}
 use Rattle.xfs_restored.specs.Changes.{LeavesRoom, LinksAscend, inodes_taken}
 
 module _ (l : Lost) (linked : NodeRec → ℕ) where

@@ -12,9 +12,9 @@ use Rattle.xfs_render.specs.Plans.{IsOnce, plan_rows, planned}
 use Rattle.xfs_render.specs.declared.plan.Plan.{Plan}
 use Rattle.xfs_writing.specs.Writing.{Writes, writes_of_rows, written}
 use Rattle.xfs_writing.specs.declared.rows.Row.{Row}
-use Rattle.xfs_made.proofs.OnceLists.{counted}
-use Rattle.xfs_rebuild.specs.Differing.{differs, left_to_write}
-use Rattle.xfs_made.proofs.Counting.{counted_cons, once_rest, one_if}
+use Rattle.xfs_rename.proofs.xfs_made.OnceLists.{counted}
+use Rattle.xfs_rename.specs.xfs_rebuild.Differing.{differs, left_to_write}
+use Rattle.xfs_rename.proofs.xfs_made.Counting.{counted_cons, once_rest, one_if}
 
 -- as many blocks as before
 pub length_written : (writes : Writes) (image : Image) → length (written writes image) ≡ length image

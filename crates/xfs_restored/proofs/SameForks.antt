@@ -17,8 +17,8 @@ use Rattle.xfs_volume.specs.declared.files.FileRec.{FileRec}
 use Rattle.xfs_views.proofs.Members.{Member}
 use Rattle.xfs_render.specs.Slots.{DropsAttrs, SetsLinks}
 use Rattle.xfs_salvage.specs.declared.found.Salvaged.{Salvaged}
-use Rattle.xfs_request.specs.Slots.{attrs_wanted, links_due, nlink_wanted, state_at}
-use Rattle.xfs_request.specs.declared.seen.SlotSeen.{SlotSeen}
+use Rattle.xfs_rename.specs.xfs_request.Slots.{attrs_wanted, links_due, nlink_wanted, state_at}
+use Rattle.xfs_rename.specs.xfs_request.declared.seen.SlotSeen.{SlotSeen}
 use Rattle.xfs_restored.specs.Kept.{HasKept}
 use Rattle.xfs_restored.proofs.Changes.{drops_same, links_forks}
 use Rattle.xfs_restored.proofs.Forks.{HasSameFork}

@@ -12,12 +12,12 @@ use Rattle.xfs_place.specs.Objects.{AreJoined, ServeAsks, asks_of, rest_of}
 use Rattle.xfs_place.specs.declared.wanted.Object.{Object}
 use Rattle.xfs_place.specs.declared.wanted.RunAsk.{RunAsk}
 use Rattle.xfs_space.specs.Owners.{extent_run}
-use Rattle.xfs_built.specs.Extents.{extent_of_run}
-use Rattle.xfs_built.specs.Asks.{asked_run, asks_for, object_of, objects_of, stands_in_blocks}
-use Rattle.xfs_built.specs.Directories.{BuiltRuns, asks_of_built, built_runs, runs_of_built, with_runs}
-use Rattle.xfs_built.specs.Pieces.{taken}
-use Rattle.xfs_built.proofs.Fronts.{all_append}
-use Rattle.xfs_built.proofs.Mapping.{address_leads}
+use Rattle.xfs_rename.specs.xfs_built.Extents.{extent_of_run}
+use Rattle.xfs_rename.specs.xfs_built.Asks.{asked_run, asks_for, object_of, objects_of, stands_in_blocks}
+use Rattle.xfs_rename.specs.xfs_built.Directories.{BuiltRuns, asks_of_built, built_runs, runs_of_built, with_runs}
+use Rattle.xfs_rename.specs.xfs_built.Pieces.{taken}
+use Rattle.xfs_rename.proofs.xfs_built.Fronts.{all_append}
+use Rattle.xfs_rename.proofs.xfs_built.Mapping.{address_leads}
 use Rattle.xfs_restored.specs.Relinking.{extents_built}
 
 -- runs of an owner

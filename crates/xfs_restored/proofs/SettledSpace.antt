@@ -15,27 +15,27 @@ use Rattle.xfs_place.specs.Wanted.{inodes_in_group, kept_runs}
 use Rattle.xfs_place.specs.declared.placed.Placed.{Placed}
 use Rattle.xfs_place.specs.declared.wanted.GroupInodes.{GroupInodes}
 use Rattle.xfs_place.specs.declared.wanted.Wanted.{Wanted}
-use Rattle.xfs_scan.specs.declared.evidence.Evidence.{Evidence}
+use Rattle.xfs_rename.specs.xfs_scan.declared.evidence.Evidence.{Evidence}
 use Rattle.xfs_space.specs.Owners.{file_runs}
 use Rattle.xfs_space.specs.SpaceLaws.{space_laws}
-use Rattle.xfs_made.specs.Groups.{due_groups}
-use Rattle.xfs_made.specs.Keeping.{KeepsJust, all_clusters, all_used}
-use Rattle.xfs_made.proofs.Chunks.{chunks_kept}
-use Rattle.xfs_made.proofs.Entries.{chains_kept, lists_kept}
-use Rattle.xfs_made.proofs.SameRuns.{AreSame, same_held, same_on}
-use Rattle.xfs_made.proofs.Spaces.{space_lawful}
-use Rattle.xfs_made.proofs.Totals.{counters_kept}
-use Rattle.xfs_made.proofs.Kept.{space_kept}
+use Rattle.xfs_rename.specs.xfs_made.Groups.{due_groups}
+use Rattle.xfs_rename.specs.xfs_made.Keeping.{KeepsJust, all_clusters, all_used}
+use Rattle.xfs_rename.proofs.xfs_made.Chunks.{chunks_kept}
+use Rattle.xfs_rename.proofs.xfs_made.Entries.{chains_kept, lists_kept}
+use Rattle.xfs_rename.proofs.xfs_made.SameRuns.{AreSame, same_held, same_on}
+use Rattle.xfs_rename.proofs.xfs_made.Spaces.{space_lawful}
+use Rattle.xfs_rename.proofs.xfs_made.Totals.{counters_kept}
+use Rattle.xfs_rename.proofs.xfs_made.Kept.{space_kept}
 use Rattle.xfs_volume.specs.Laws.{AreKept}
 use Rattle.xfs_volume.specs.declared.files.FileRec.{FileRec}
 use Rattle.xfs_volume.specs.declared.groups.GroupRec.{GroupRec}
 use Rattle.xfs_salvage.specs.Kept.{run_of_cluster}
 use Rattle.xfs_salvage.specs.declared.found.Salvaged.{Salvaged}
-use Rattle.xfs_request.specs.Chunks.{group_asked, inodes_wanted}
-use Rattle.xfs_request.specs.Requests.{volume_wanted}
-use Rattle.xfs_requested.proofs.Clusters.{clusters_are_kept}
-use Rattle.xfs_requested.proofs.Used.{asked_due}
-use Rattle.xfs_rebuild.specs.declared.names_due.NamesDue.{NamesDue}
+use Rattle.xfs_rename.specs.xfs_request.Chunks.{group_asked, inodes_wanted}
+use Rattle.xfs_rename.specs.xfs_request.Requests.{volume_wanted}
+use Rattle.xfs_rename.proofs.xfs_requested.Clusters.{clusters_are_kept}
+use Rattle.xfs_rename.proofs.xfs_requested.Used.{asked_due}
+use Rattle.xfs_rename.specs.xfs_rebuild.declared.names_due.NamesDue.{NamesDue}
 use Rattle.xfs_rename.specs.Lost.{lost_due}
 use Rattle.xfs_rename.specs.Objects.{wanted_with}
 use Rattle.xfs_rename.specs.Renames.{old_files, renamed_wanted}

@@ -19,9 +19,9 @@ use Rattle.xfs_names.specs.declared.building.BuiltDirectory.{BuiltDirectory}
 use Rattle.xfs_names.specs.declared.building.ForkRoom.{ForkRoom}
 use Rattle.xfs_names.specs.declared.records.WantedNames.{WantedNames}
 use Rattle.xfs_views.proofs.Members.{Member, contained}
-use Rattle.xfs_built.specs.Asks.{stands_in_blocks}
-use Rattle.xfs_changes.specs.Rooms.{fork_rooms, has_attributes_behind, room_before_attributes}
-use Rattle.xfs_built.proofs.Sized.{none_short}
+use Rattle.xfs_rename.specs.xfs_built.Asks.{stands_in_blocks}
+use Rattle.xfs_rename.specs.xfs_changes.Rooms.{fork_rooms, has_attributes_behind, room_before_attributes}
+use Rattle.xfs_rename.proofs.xfs_built.Sized.{none_short}
 
 length_entry : (offset : ℕ) (e : EntryRec) → length (short_entry_bytes offset e) ≡ short_size_of e
 unfolding short_entry_bytes

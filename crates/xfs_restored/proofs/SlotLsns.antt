@@ -10,7 +10,7 @@ use Rattle.xfs_word.specs.Field.{part_of}
 use Rattle.xfs_geom.specs.Conversions.{inode_of}
 use Rattle.xfs_geom.specs.Volumes.{Volume, volume_of}
 use Rattle.xfs_geom.specs.declared.geometry.Geometry.{Geometry}
-use Rattle.xfs_built.proofs.SlotNumbers.{slot_back, slot_lsn}
+use Rattle.xfs_rename.proofs.xfs_built.SlotNumbers.{slot_back, slot_lsn}
 use Rattle.xfs_image.specs.Claims.{candidate_inodes}
 use Rattle.xfs_image.specs.Clusters.{cluster_of}
 use Rattle.xfs_image.specs.Lsns.{LsnPlace, at, cluster_places, lsn_at, slot_place}
@@ -20,15 +20,15 @@ use Rattle.xfs_views.proofs.Addresses.{IsPlaced}
 use Rattle.xfs_views.proofs.Images.{inode_cluster}
 use Rattle.xfs_views.proofs.Members.{Member, any_member, flat_member, map_member, member_any, member_flat, member_left, member_map, row_member}
 use Rattle.xfs_render.specs.Slots.{DropsAttrs, IsMadeSlot, SetsLinks}
-use Rattle.xfs_made.proofs.Numbers.{number_in_part}
+use Rattle.xfs_rename.proofs.xfs_made.Numbers.{number_in_part}
 use Rattle.xfs_space.proofs.RecordedMaps.{group_inside}
 use Rattle.xfs_volume.specs.declared.cores.Core.{Core}
 use Rattle.xfs_volume.specs.declared.files.FileRec.{FileRec}
 use Rattle.xfs_salvage.specs.declared.found.Salvaged.{Salvaged}
-use Rattle.xfs_request.specs.Cycles.{keeps_lsn, kept_lsns, lsn_listed}
-use Rattle.xfs_request.specs.Fresh.{new_slot, new_root_slot, new_system_slot}
-use Rattle.xfs_request.specs.Slots.{attrs_wanted, freed_slot, is_free, links_due, nlink_wanted, state_at}
-use Rattle.xfs_request.specs.declared.seen.SlotSeen.{SlotSeen}
+use Rattle.xfs_rename.specs.xfs_request.Cycles.{keeps_lsn, kept_lsns, lsn_listed}
+use Rattle.xfs_rename.specs.xfs_request.Fresh.{new_slot, new_root_slot, new_system_slot}
+use Rattle.xfs_rename.specs.xfs_request.Slots.{attrs_wanted, freed_slot, is_free, links_due, nlink_wanted, state_at}
+use Rattle.xfs_rename.specs.xfs_request.declared.seen.SlotSeen.{SlotSeen}
 use Rattle.xfs_restored.specs.DueFiles.{kept_inodes}
 use Rattle.xfs_restored.specs.Kept.{HasKept, all_slots_seen, slot_seen}
 use Rattle.xfs_restored.proofs.Fresh.{freed_states, made_root, system_states}

@@ -30,13 +30,13 @@ use Rattle.xfs_render.specs.Plans.{HoldsPlan}
 use Rattle.xfs_render.specs.Slots.{IsMadeSlot, wanted_of}
 use Rattle.xfs_render.specs.declared.wanted_slots.SlotBase.TheVariants.{Fresh}
 use Rattle.xfs_render.specs.declared.wanted_slots.SlotWanted.{SlotWanted}
-use Rattle.xfs_scan.specs.declared.evidence.Evidence.{Evidence}
-use Rattle.xfs_request.specs.Fresh.{new_root_core, new_root_fork, new_system_core}
-use Rattle.xfs_request.specs.Slots.{freed_slot, is_bare, is_free, own_blocks, state_at}
-use Rattle.xfs_request.specs.declared.seen.SlotSeen.{SlotSeen}
-use Rattle.xfs_requested.specs.Handed.{IsKeptOf}
-use Rattle.xfs_rebuild.specs.Names as Names
-use Rattle.xfs_rebuild.specs.declared.names_due.NamesDue.{NamesDue}
+use Rattle.xfs_rename.specs.xfs_scan.declared.evidence.Evidence.{Evidence}
+use Rattle.xfs_rename.specs.xfs_request.Fresh.{new_root_core, new_root_fork, new_system_core}
+use Rattle.xfs_rename.specs.xfs_request.Slots.{freed_slot, is_bare, is_free, own_blocks, state_at}
+use Rattle.xfs_rename.specs.xfs_request.declared.seen.SlotSeen.{SlotSeen}
+use Rattle.xfs_rename.specs.xfs_requested.Handed.{IsKeptOf}
+use Rattle.xfs_rename.specs.xfs_rebuild.Names as Names
+use Rattle.xfs_rename.specs.xfs_rebuild.declared.names_due.NamesDue.{NamesDue}
 use Rattle.xfs_restored.proofs.Standing.{same_size}
 use Rattle.xfs_restored.specs.DueFiles.{due_core, kept_inodes, linked_core, new_core, stated_crc}
 use Rattle.xfs_restored.specs.Kept.{state_read}
@@ -45,14 +45,14 @@ use Rattle.xfs_restored.proofs.Fresh.{freed_reads}
 use Rattle.xfs_restored.proofs.InKept.{kept_read, of_kept}
 use Rattle.xfs_restored.proofs.RootInodes.{low_root}
 use Rattle.xfs_restored.proofs.Wanted.{state_is}
-use Rattle.xfs_changes.specs.Forks.{attribute_blocks, attribute_blocks_at}
+use Rattle.xfs_rename.specs.xfs_changes.Forks.{attribute_blocks, attribute_blocks_at}
 use Rattle.xfs_rename.specs.Lost.{lost_due}
-use Rattle.xfs_changes.specs.Rooms.{fork_rooms}
+use Rattle.xfs_rename.specs.xfs_changes.Rooms.{fork_rooms}
 use Rattle.xfs_rename.specs.Settled.{settled, staying_file, without_data}
-use Rattle.xfs_changes.specs.Slots.{lost_core}
+use Rattle.xfs_rename.specs.xfs_changes.Slots.{lost_core}
 use Rattle.xfs_rename.specs.declared.planning.Renamed.{Renamed}
 use Rattle.xfs_naming.specs.Naming.{file_at}
-use Rattle.xfs_built.specs.Directories.{BuiltRuns}
+use Rattle.xfs_rename.specs.xfs_built.Directories.{BuiltRuns}
 use Rattle.xfs_restored.specs.RunForks.{fork_of_runs}
 use Rattle.xfs_restored.specs.Reading.{IsFreshDirectory, fresh_directory_slot}
 use Rattle.xfs_restored.proofs.DueSlots.{slots_due}

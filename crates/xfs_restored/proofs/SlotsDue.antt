@@ -17,11 +17,11 @@ use Rattle.xfs_render.specs.Plans.{planned}
 use Rattle.xfs_render.specs.Rendering.{byte_place, is_head, old_at}
 use Rattle.xfs_render.specs.Slots.{IsMadeSlot, IsSlotDue}
 use Rattle.xfs_render.specs.declared.wanted_slots.SlotWanted.{SlotWanted}
-use Rattle.xfs_made.proofs.Slots.{slots_stand}
-use Rattle.xfs_request.specs.Requests.{volume_wanted}
-use Rattle.xfs_rebuild.specs.Places.{has_wanted, old_places}
-use Rattle.xfs_rebuild.specs.Rebuilds.{Ground, IsPlannedOn, asked, slots_asked}
-use Rattle.xfs_rebuild.specs.declared.planning.Rebuilt.{Rebuilt}
+use Rattle.xfs_rename.proofs.xfs_made.Slots.{slots_stand}
+use Rattle.xfs_rename.specs.xfs_request.Requests.{volume_wanted}
+use Rattle.xfs_rename.specs.xfs_rebuild.Places.{has_wanted, old_places}
+use Rattle.xfs_rename.specs.xfs_rebuild.Rebuilds.{Ground, IsPlannedOn, asked, slots_asked}
+use Rattle.xfs_rename.specs.xfs_rebuild.declared.planning.Rebuilt.{Rebuilt}
 use Rattle.xfs_restored.specs.Rewriting.{IsRewritten}
 use Rattle.xfs_restored.proofs.Kept.{cluster_place, none_wanted}
 use Rattle.xfs_restored.proofs.Placed.{cluster_inside, cluster_no_head, unwanted_unplanned}

@@ -9,16 +9,16 @@ use Rattle.xfs_place.specs.Pool.{is_listed}
 use Rattle.xfs_render.specs.Drafts.{HoldsRows, row_places}
 use Rattle.xfs_render.specs.Plans.{HoldsPlan, IsOnce, plan_rows, planned}
 use Rattle.xfs_render.specs.declared.plan.Plan.{Plan}
-use Rattle.xfs_made.specs.Standing.{HasHeads, IsStanding}
-use Rattle.xfs_request.specs.Requests.{volume_wanted}
+use Rattle.xfs_rename.specs.xfs_made.Standing.{HasHeads, IsStanding}
+use Rattle.xfs_rename.specs.xfs_request.Requests.{volume_wanted}
 use Rattle.xfs_writing.specs.Writing.{writes_of_rows, written}
 use Rattle.xfs_writing.specs.declared.rows.Row.{Row}
-use Rattle.xfs_made.proofs.OnceLists.{counted}
-use Rattle.xfs_rebuild.specs.Differing.{differs, left_to_write}
-use Rattle.xfs_rebuild.specs.Rebuilds.{Ground, IsLeft, IsPlannedOn, asked, slots_asked}
-use Rattle.xfs_rebuild.specs.declared.planning.Rebuilt.{Rebuilt}
+use Rattle.xfs_rename.proofs.xfs_made.OnceLists.{counted}
+use Rattle.xfs_rename.specs.xfs_rebuild.Differing.{differs, left_to_write}
+use Rattle.xfs_rename.specs.xfs_rebuild.Rebuilds.{Ground, IsLeft, IsPlannedOn, asked, slots_asked}
+use Rattle.xfs_rename.specs.xfs_rebuild.declared.planning.Rebuilt.{Rebuilt}
 use Rattle.xfs_restored.specs.Rewriting.{IsRewritten}
-use Rattle.xfs_made.proofs.Counting.{unlisted}
+use Rattle.xfs_rename.proofs.xfs_made.Counting.{unlisted}
 use Rattle.xfs_restored.proofs.Kept.{head_place}
 use Rattle.xfs_restored.proofs.Placed.{all_inside, blocks_once}
 use Rattle.xfs_restored.proofs.RowsWritten.{both_left, equal_left, left_count, left_once, length_written, planned_is, rows_beside, rows_held, rows_of}

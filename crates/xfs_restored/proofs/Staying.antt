@@ -16,14 +16,14 @@ use Rattle.xfs_volume.specs.declared.files.FileRec.{FileRec}
 use Rattle.xfs_place.specs.Pool.{is_listed}
 use Rattle.xfs_views.proofs.Members.{Member, member_all}
 use Rattle.xfs_render.specs.Plans.{planned}
-use Rattle.xfs_scan.specs.Evidence.{IsEvidence}
-use Rattle.xfs_scan.specs.declared.evidence.Evidence.{Evidence}
+use Rattle.xfs_rename.specs.xfs_scan.Evidence.{IsEvidence}
+use Rattle.xfs_rename.specs.xfs_scan.declared.evidence.Evidence.{Evidence}
 use Rattle.xfs_views.proofs.FilesStay as FilesStay
 use Rattle.xfs_views.specs.SameFiles.{HasSameClaims}
 use Rattle.xfs_salvage.specs.Kept.{kept_files}
-use Rattle.xfs_requested.proofs.Protected.{protected_stays}
-use Rattle.xfs_rebuild.specs.Rebuilds.{Ground, IsPlannedOn, IsRebuildOf}
-use Rattle.xfs_rebuild.specs.declared.planning.Rebuilt.{Rebuilt}
+use Rattle.xfs_rename.proofs.xfs_requested.Protected.{protected_stays}
+use Rattle.xfs_rename.specs.xfs_rebuild.Rebuilds.{Ground, IsPlannedOn, IsRebuildOf}
+use Rattle.xfs_rename.specs.xfs_rebuild.declared.planning.Rebuilt.{Rebuilt}
 use Rattle.xfs_restored.specs.Rewriting.{IsRewritten}
 use Rattle.xfs_restored.proofs.Placed.{files_free}
 use Rattle.xfs_restored.proofs.Standing.{others_stay}

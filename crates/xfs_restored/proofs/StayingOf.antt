@@ -17,26 +17,26 @@ use Rattle.xfs_naming.specs.Naming.{is_in_use}
 use Rattle.xfs_volume.specs.Names.{type_of}
 use Rattle.xfs_volume.specs.declared.cores.Core.{Core}
 use Rattle.xfs_volume.specs.declared.files.FileRec.{FileRec}
-use Rattle.xfs_scan.specs.declared.evidence.Evidence.{Evidence}
+use Rattle.xfs_rename.specs.xfs_scan.declared.evidence.Evidence.{Evidence}
 use Rattle.xfs_views.specs.SameFiles.{HasSameClaims}
 use Rattle.xfs_views.proofs.Members.{Member, all_members, contained, contains, map_member, member_any, member_either, member_map}
-use Rattle.xfs_rebuild.specs.Names.{linked_file, linked_files}
-use Rattle.xfs_rebuild.specs.declared.names_due.NamesDue.{NamesDue}
+use Rattle.xfs_rename.specs.xfs_rebuild.Names.{linked_file, linked_files}
+use Rattle.xfs_rename.specs.xfs_rebuild.declared.names_due.NamesDue.{NamesDue}
 use Rattle.xfs_rename.specs.Lost.{lost_due}
 use Rattle.xfs_rename.specs.Renames.{old_files, placed_forks, renamed_slots}
 use Rattle.xfs_rename.specs.Settled.{fresh_with, settled, staying_file, without_data}
-use Rattle.xfs_changes.specs.declared.lost_found.Lost.{Lost}
+use Rattle.xfs_rename.specs.xfs_changes.declared.lost_found.Lost.{Lost}
 use Rattle.xfs_rename.specs.declared.planning.Renamed.{Renamed}
-use Rattle.xfs_built.specs.Directories.{with_runs}
+use Rattle.xfs_rename.specs.xfs_built.Directories.{with_runs}
 use Rattle.xfs_restored.proofs.NewSlots.{added_made}
 use Rattle.xfs_render.specs.Slots.{wanted_of}
 use Rattle.xfs_render.specs.declared.wanted_slots.SlotBase.TheVariants.{Kept}
 use Rattle.xfs_render.specs.declared.wanted_slots.SlotWanted.{SlotWanted}
-use Rattle.xfs_request.specs.Fresh.{new_root_core, new_system_core}
-use Rattle.xfs_request.specs.Slots.{freed_slot, is_free, state_at}
-use Rattle.xfs_request.specs.declared.seen.SlotSeen.{SlotSeen}
-use Rattle.xfs_requested.specs.Handed.{IsKeptOf}
-use Rattle.xfs_requested.proofs.Taken.{among_member}
+use Rattle.xfs_rename.specs.xfs_request.Fresh.{new_root_core, new_system_core}
+use Rattle.xfs_rename.specs.xfs_request.Slots.{freed_slot, is_free, state_at}
+use Rattle.xfs_rename.specs.xfs_request.declared.seen.SlotSeen.{SlotSeen}
+use Rattle.xfs_rename.specs.xfs_requested.Handed.{IsKeptOf}
+use Rattle.xfs_rename.proofs.xfs_requested.Taken.{among_member}
 use Rattle.xfs_restored.specs.DueFiles.{kept_inodes, new_core}
 use Rattle.xfs_restored.specs.Kept.{slot_seen}
 use Rattle.xfs_restored.proofs.InKept.{of_kept}

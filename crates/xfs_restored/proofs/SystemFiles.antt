@@ -22,14 +22,14 @@ use Rattle.xfs_names.specs.Wanted.{link_count, wanted_entries, with_directory, w
 use Rattle.xfs_names.proofs.Deciding.{directory_with, has_directories}
 use Rattle.xfs_views.proofs.Members.{Member, any_member, contains, member_any, member_map}
 use Rattle.xfs_salvage.specs.Kept.{own_inodes}
-use Rattle.xfs_request.specs.Fresh.{new_system_core}
-use Rattle.xfs_scan.specs.declared.evidence.Evidence.{Evidence}
-use Rattle.xfs_rebuild.specs.Names as Names
-use Rattle.xfs_rebuild.specs.declared.names_due.NamesDue.{NamesDue}
+use Rattle.xfs_rename.specs.xfs_request.Fresh.{new_system_core}
+use Rattle.xfs_rename.specs.xfs_scan.declared.evidence.Evidence.{Evidence}
+use Rattle.xfs_rename.specs.xfs_rebuild.Names as Names
+use Rattle.xfs_rename.specs.xfs_rebuild.declared.names_due.NamesDue.{NamesDue}
 use Rattle.xfs_rename.specs.Lost.{lost_due}
-use Rattle.xfs_changes.specs.declared.lost_found.Lost.{Lost}
+use Rattle.xfs_rename.specs.xfs_changes.declared.lost_found.Lost.{Lost}
 use Rattle.xfs_rename.specs.declared.planning.Renamed.{Renamed}
-use Rattle.xfs_built.specs.Directories.{BuiltRuns}
+use Rattle.xfs_rename.specs.xfs_built.Directories.{BuiltRuns}
 use Rattle.xfs_restored.specs.DueFiles.{new_core}
 use Rattle.xfs_restored.proofs.Others.{among}
 use Rattle.xfs_restored.specs.Relinking.{IsRelinked, built_at, core_anew, renamed_files}

@@ -17,16 +17,16 @@ use Rattle.xfs_image.specs.Slots.{cluster_blocks, cluster_inodes, inodes_of_bloc
 use Rattle.xfs_place.specs.Pool.{is_taken}
 use Rattle.xfs_views.proofs.Members.{Member, flat_member, map_member, member_all, member_any, member_map, row_member}
 use Rattle.xfs_salvage.specs.Kept.{run_of_cluster}
-use Rattle.xfs_rebuild.proofs.Known.{known_clusters_lie}
-use Rattle.xfs_rebuild.specs.Rebuilds.{HasNamesDue}
-use Rattle.xfs_rebuild.specs.declared.names_due.NamesDue.{NamesDue}
+use Rattle.xfs_rename.proofs.xfs_rebuild.Known.{known_clusters_lie}
+use Rattle.xfs_rename.specs.xfs_rebuild.Rebuilds.{HasNamesDue}
+use Rattle.xfs_rename.specs.xfs_rebuild.declared.names_due.NamesDue.{NamesDue}
 use Rattle.xfs_rename.specs.Lost.{lost_due}
-use Rattle.xfs_changes.specs.Nodes.{first_of_cluster}
+use Rattle.xfs_rename.specs.xfs_changes.Nodes.{first_of_cluster}
 use Rattle.xfs_rename.specs.Objects.{wanted_with}
 use Rattle.xfs_rename.specs.Renames.{IsRenamed}
 use Rattle.xfs_rename.specs.Settled.{staying_files}
 use Rattle.xfs_rename.specs.declared.planning.Renamed.{Renamed}
-use Rattle.xfs_made.proofs.Counting.{taken_on}
+use Rattle.xfs_rename.proofs.xfs_made.Counting.{taken_on}
 use Rattle.xfs_space.specs.Owners.{file_runs}
 
 -- addresses of blocks ascend, by groups of w blocks that have k addresses each

@@ -17,28 +17,28 @@ use Rattle.xfs_names.specs.declared.records.WantedNames.{WantedNames}
 use Rattle.xfs_naming.specs.Naming.{entries_in, file_at}
 use Rattle.xfs_views.proofs.Members.{Member, any_member, filter_member, map_member, member_any, member_filter, member_map}
 use Rattle.xfs_salvage.specs.declared.found.Salvaged.{Salvaged}
-use Rattle.xfs_request.specs.Fresh.{new_root_core, new_system_core}
-use Rattle.xfs_request.specs.Slots.{links_due, wanted_slots}
-use Rattle.xfs_requested.proofs.Taken.{among_member}
-use Rattle.xfs_scan.specs.declared.evidence.Evidence.{Evidence}
+use Rattle.xfs_rename.specs.xfs_request.Fresh.{new_root_core, new_system_core}
+use Rattle.xfs_rename.specs.xfs_request.Slots.{links_due, wanted_slots}
+use Rattle.xfs_rename.proofs.xfs_requested.Taken.{among_member}
+use Rattle.xfs_rename.specs.xfs_scan.declared.evidence.Evidence.{Evidence}
 use Rattle.xfs_volume.specs.Names.{is_directory, type_of}
 use Rattle.xfs_volume.specs.declared.directories.DirRec.{DirRec}
 use Rattle.xfs_volume.specs.declared.files.FileRec.{FileRec}
-use Rattle.xfs_rebuild.specs.Names.{due_files, linked_file, linked_files, made_files, new_file}
-use Rattle.xfs_rebuild.specs.declared.names_due.NamesDue.{NamesDue}
+use Rattle.xfs_rename.specs.xfs_rebuild.Names.{due_files, linked_file, linked_files, made_files, new_file}
+use Rattle.xfs_rename.specs.xfs_rebuild.declared.names_due.NamesDue.{NamesDue}
 use Rattle.xfs_restored.specs.DueFiles.{new_core}
-use Rattle.xfs_changes.specs.Forks.{attribute_blocks, attribute_blocks_at, first_attribute_blocks, fork_listed, forks_of}
+use Rattle.xfs_rename.specs.xfs_changes.Forks.{attribute_blocks, attribute_blocks_at, first_attribute_blocks, fork_listed, forks_of}
 use Rattle.xfs_rename.specs.Lost.{lost_due}
-use Rattle.xfs_changes.specs.Nodes.{nodes_of_files}
-use Rattle.xfs_built.specs.Asks.{stands_in_blocks}
+use Rattle.xfs_rename.specs.xfs_changes.Nodes.{nodes_of_files}
+use Rattle.xfs_rename.specs.xfs_built.Asks.{stands_in_blocks}
 use Rattle.xfs_rename.specs.Renames.{old_files, placed_forks}
 use Rattle.xfs_rename.specs.Settled.{is_old, staying_file, staying_files, without_data}
-use Rattle.xfs_changes.specs.Slots.{first_fork, first_links, fork_at, links_held_at}
-use Rattle.xfs_changes.specs.declared.forks.DirectoryFork.{DirectoryFork}
-use Rattle.xfs_changes.specs.declared.lost_found.Lost.{Lost}
+use Rattle.xfs_rename.specs.xfs_changes.Slots.{first_fork, first_links, fork_at, links_held_at}
+use Rattle.xfs_rename.specs.xfs_changes.declared.forks.DirectoryFork.{DirectoryFork}
+use Rattle.xfs_rename.specs.xfs_changes.declared.lost_found.Lost.{Lost}
 use Rattle.xfs_rename.specs.declared.planning.Renamed.{Renamed}
 use Rattle.xfs_restored.proofs.ForkRuns.{forks_go}
-use Rattle.xfs_built.specs.Directories.{BuiltRuns, asks_of_built, built_runs, runs_of_built, with_runs}
+use Rattle.xfs_rename.specs.xfs_built.Directories.{BuiltRuns, asks_of_built, built_runs, runs_of_built, with_runs}
 use Rattle.xfs_restored.specs.RunForks.{fork_of_runs}
 use Rattle.xfs_restored.specs.Relinking.{IsRelinked, built_at, first_built}
 use Rattle.xfs_restored.proofs.WantedLists.{all_stay, at_first, at_none, filter_map, mades_gone, none_other}

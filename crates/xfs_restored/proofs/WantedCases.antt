@@ -19,26 +19,26 @@ use Rattle.xfs_render.specs.declared.wanted_slots.SlotBase.TheVariants.{Fresh, K
 use Rattle.xfs_render.specs.declared.wanted_slots.SlotWanted.{SlotWanted}
 use Rattle.xfs_salvage.proofs.Ascending.{lower}
 use Rattle.xfs_salvage.specs.declared.found.Salvaged.{Salvaged}
-use Rattle.xfs_request.specs.Fresh.{new_root_core, new_root_fork, new_root_slot, new_slot, new_system_core, new_system_slot}
-use Rattle.xfs_request.specs.Slots.{attrs_wanted, file_slot, freed_slot, is_free, kept_slot, links_due, nlink_wanted, slot_listed, slot_wanted, state_at}
-use Rattle.xfs_request.specs.declared.seen.SlotSeen.{SlotSeen}
-use Rattle.xfs_requested.proofs.Spaced.{AreSpaced, inodes_up, kept_spaced}
-use Rattle.xfs_requested.proofs.Taken.{among_member}
-use Rattle.xfs_requested.proofs.Inodes.{first_in}
-use Rattle.xfs_scan.specs.declared.evidence.Evidence.{Evidence}
+use Rattle.xfs_rename.specs.xfs_request.Fresh.{new_root_core, new_root_fork, new_root_slot, new_slot, new_system_core, new_system_slot}
+use Rattle.xfs_rename.specs.xfs_request.Slots.{attrs_wanted, file_slot, freed_slot, is_free, kept_slot, links_due, nlink_wanted, slot_listed, slot_wanted, state_at}
+use Rattle.xfs_rename.specs.xfs_request.declared.seen.SlotSeen.{SlotSeen}
+use Rattle.xfs_rename.proofs.xfs_requested.Spaced.{AreSpaced, inodes_up, kept_spaced}
+use Rattle.xfs_rename.proofs.xfs_requested.Taken.{among_member}
+use Rattle.xfs_rename.proofs.xfs_requested.Inodes.{first_in}
+use Rattle.xfs_rename.specs.xfs_scan.declared.evidence.Evidence.{Evidence}
 use Rattle.xfs_volume.specs.declared.cores.Core.{Core}
 use Rattle.xfs_volume.specs.declared.files.FileRec.{FileRec}
-use Rattle.xfs_rebuild.specs.declared.names_due.NamesDue.{NamesDue}
+use Rattle.xfs_rename.specs.xfs_rebuild.declared.names_due.NamesDue.{NamesDue}
 use Rattle.xfs_restored.proofs.Wanted.{file_wanted, listed, other_wanted, wanted_is}
 use Rattle.xfs_restored.specs.DueFiles.{kept_inodes, new_core}
 use Rattle.xfs_rename.specs.Lost.{lost_due}
-use Rattle.xfs_changes.specs.Nodes.{first_of_cluster}
+use Rattle.xfs_rename.specs.xfs_changes.Nodes.{first_of_cluster}
 use Rattle.xfs_rename.specs.Renames.{old_files, placed_forks, renamed_slots}
 use Rattle.xfs_rename.specs.Settled.{settled, with_numbers}
-use Rattle.xfs_changes.specs.Slots.{base_made, change_listed, change_of, changes_of, changes_something, fork_at, free_change, free_changes, links_held_at, links_set, lost_core}
-use Rattle.xfs_changes.specs.declared.changes.SlotChange.{SlotChange}
-use Rattle.xfs_changes.specs.declared.forks.DirectoryFork.{DirectoryFork}
-use Rattle.xfs_changes.specs.declared.lost_found.Lost.{Lost}
+use Rattle.xfs_rename.specs.xfs_changes.Slots.{base_made, change_listed, change_of, changes_of, changes_something, fork_at, free_change, free_changes, links_held_at, links_set, lost_core}
+use Rattle.xfs_rename.specs.xfs_changes.declared.changes.SlotChange.{SlotChange}
+use Rattle.xfs_rename.specs.xfs_changes.declared.forks.DirectoryFork.{DirectoryFork}
+use Rattle.xfs_rename.specs.xfs_changes.declared.lost_found.Lost.{Lost}
 use Rattle.xfs_rename.specs.declared.planning.Renamed.{Renamed}
 use Rattle.xfs_restored.proofs.Changing.{changes_wanted}
 use Rattle.xfs_restored.proofs.DueSlots.{numbers_either}
@@ -47,7 +47,7 @@ use Rattle.xfs_restored.proofs.Links.{changes_ascend, file_change}
 use Rattle.xfs_restored.proofs.NewCluster.{free_due}
 use Rattle.xfs_restored.proofs.NewSlots.{added_few, added_made, cluster_row}
 use Rattle.xfs_restored.specs.Changes.{SlotsAscend, change_if, first_change, with_change}
-use Rattle.xfs_built.specs.Directories.{BuiltRuns, with_runs}
+use Rattle.xfs_rename.specs.xfs_built.Directories.{BuiltRuns, with_runs}
 use Rattle.xfs_restored.specs.RunForks.{fork_of_runs}
 use Rattle.xfs_restored.proofs.Standing.{same_size}
 use Rattle.xfs_restored.specs.Relinking.{IsRelinked, built_at}

@@ -18,14 +18,14 @@ use Rattle.xfs_render.specs.Slots.{wanted_of}
 use Rattle.xfs_render.specs.declared.wanted_slots.SlotBase.{SlotBase}
 use Rattle.xfs_render.specs.declared.wanted_slots.SlotBase.TheVariants.{Fresh}
 use Rattle.xfs_render.specs.declared.wanted_slots.SlotWanted.{SlotWanted}
-use Rattle.xfs_built.specs.Extents.{extent_of_run}
-use Rattle.xfs_changes.specs.Forks.{extents_fork, short_fork}
-use Rattle.xfs_changes.specs.Slots.{base_made, changed, changed_alone, changes_of, fork_at, links_held_at, links_set, lost_core, with_changes}
-use Rattle.xfs_changes.specs.declared.changes.SlotChange.{SlotChange}
-use Rattle.xfs_changes.specs.declared.forks.DirectoryFork.{DirectoryFork}
-use Rattle.xfs_changes.specs.declared.lost_found.Lost.{Lost}
+use Rattle.xfs_rename.specs.xfs_built.Extents.{extent_of_run}
+use Rattle.xfs_rename.specs.xfs_changes.Forks.{extents_fork, short_fork}
+use Rattle.xfs_rename.specs.xfs_changes.Slots.{base_made, changed, changed_alone, changes_of, fork_at, links_held_at, links_set, lost_core, with_changes}
+use Rattle.xfs_rename.specs.xfs_changes.declared.changes.SlotChange.{SlotChange}
+use Rattle.xfs_rename.specs.xfs_changes.declared.forks.DirectoryFork.{DirectoryFork}
+use Rattle.xfs_rename.specs.xfs_changes.declared.lost_found.Lost.{Lost}
 use Rattle.xfs_restored.specs.Changes.{LinksAscend, SlotsAscend, change_if, directory_change, first_change, with_change}
-use Rattle.xfs_built.specs.Directories.{BuiltRuns, IsFileOf, IsShortFileOf}
+use Rattle.xfs_rename.specs.xfs_built.Directories.{BuiltRuns, IsFileOf, IsShortFileOf}
 use Rattle.xfs_restored.specs.Reading.{directory_file, kept_directory_slot, made_core, rebuilt_file}
 use Rattle.xfs_restored.proofs.Changing.{changes_wanted}
 use Rattle.xfs_restored.proofs.Links.{changes_ascend, file_change}

@@ -5,7 +5,7 @@ use Rattle.xfs_volume.specs.declared.files.FileRec.{FileRec}
 use Rattle.xfs_naming.specs.Naming.{file_at, is_in_use}
 use Rattle.xfs_naming.proofs.Chosen.{first_of_run}
 use Rattle.xfs_views.proofs.Members.{Member, filter_member}
-use Rattle.xfs_rebuild.specs.Names.{with_made_file, with_made_files}
+use Rattle.xfs_rename.specs.xfs_rebuild.Names.{with_made_file, with_made_files}
 
 -- files that are made anew among others: each is one of these or of those, and each of both is there
 made_either : (x f : FileRec) (files : List FileRec) → Member x (with_made_file f files) → (f ≡ x) ⊎ Member x files

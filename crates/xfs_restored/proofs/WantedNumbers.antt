@@ -21,27 +21,27 @@ use Rattle.xfs_names.specs.Place.{free_inode, inodes_from, is_free_inode}
 use Rattle.xfs_names.specs.Wanted.{directory_node, wanted_entries, wanted_nodes, with_directory, with_links}
 use Rattle.xfs_names.specs.declared.place.LostPlace.{LostPlace}
 use Rattle.xfs_names.specs.declared.place.LostPlace.TheVariants as place
-use Rattle.xfs_requested.proofs.Roots.{root_kept}
+use Rattle.xfs_rename.proofs.xfs_requested.Roots.{root_kept}
 use Rattle.xfs_views.proofs.Members.{Member, all_members, filter_member, flat_member, map_member, member_any, member_flat, member_map}
 use Rattle.xfs_salvage.specs.Kept.{fresh_among, own_inodes}
 use Rattle.xfs_salvage.specs.declared.found.Salvaged.{Salvaged}
-use Rattle.xfs_request.specs.Slots.{wanted_slots}
-use Rattle.xfs_requested.proofs.Taken.{among_member}
-use Rattle.xfs_requested.specs.Handed.{IsKeptOf}
-use Rattle.xfs_scan.specs.declared.evidence.Evidence.{Evidence}
+use Rattle.xfs_rename.specs.xfs_request.Slots.{wanted_slots}
+use Rattle.xfs_rename.proofs.xfs_requested.Taken.{among_member}
+use Rattle.xfs_rename.specs.xfs_requested.Handed.{IsKeptOf}
+use Rattle.xfs_rename.specs.xfs_scan.declared.evidence.Evidence.{Evidence}
 use Rattle.xfs_volume.specs.declared.files.FileRec.{FileRec}
-use Rattle.xfs_rebuild.proofs.Grounds.{files_found}
-use Rattle.xfs_rebuild.specs.Names.{due_files, linked_file, linked_files, made_files, new_file}
-use Rattle.xfs_rebuild.specs.Rebuilds.{HasNamesDue}
-use Rattle.xfs_rebuild.specs.declared.names_due.NamesDue.{NamesDue}
+use Rattle.xfs_rename.proofs.xfs_rebuild.Grounds.{files_found}
+use Rattle.xfs_rename.specs.xfs_rebuild.Names.{due_files, linked_file, linked_files, made_files, new_file}
+use Rattle.xfs_rename.specs.xfs_rebuild.Rebuilds.{HasNamesDue}
+use Rattle.xfs_rename.specs.xfs_rebuild.declared.names_due.NamesDue.{NamesDue}
 use Rattle.xfs_restored.proofs.InKept.{file_inode}
 use Rattle.xfs_restored.proofs.RootInodes.{root_has}
 use Rattle.xfs_restored.proofs.Wanted.{one_alone}
 use Rattle.xfs_restored.specs.DueFiles.{kept_inodes, new_core}
 use Rattle.xfs_restored.proofs.Handed.{kept_of_image}
 use Rattle.xfs_rename.specs.Lost.{added_for, lost_due, new_for, no_inode, place_due}
-use Rattle.xfs_changes.specs.Nodes.{first_of_cluster, firsts_of_clusters, nodes_of_files}
-use Rattle.xfs_changes.specs.declared.lost_found.Lost.{Lost}
+use Rattle.xfs_rename.specs.xfs_changes.Nodes.{first_of_cluster, firsts_of_clusters, nodes_of_files}
+use Rattle.xfs_rename.specs.xfs_changes.declared.lost_found.Lost.{Lost}
 use Rattle.xfs_rename.specs.declared.planning.Renamed.{Renamed}
 use Rattle.xfs_restored.proofs.NewSlots.{added_few, added_made}
 use Rattle.xfs_restored.proofs.Room.{links_ascend}

@@ -7,7 +7,7 @@ use Rattle.xfs_log.specs.xfs_heads.declared.log_state.LogState.{LogState}
 use Rattle.xfs_log.specs.xfs_heads.declared.log_state.LogState.TheVariants.{Clean, Dirty}
 use Rattle.xfs_laws.specs.Counting.{head_of, is_behind}
 use Rattle.xfs_views.proofs.Members.{Member}
-use Rattle.xfs_request.specs.Cycles.{cycle_of, greatest_cycle, keeps_log}
+use Rattle.xfs_rename.specs.xfs_request.Cycles.{cycle_of, greatest_cycle, keeps_log}
 use Rattle.xfs_restored.specs.Logs.{IsLogDue}
 
 each_behind : (head lsn : ℕ) (lsns : List ℕ) → list_all (is_behind head) lsns ≡ true → Member lsn lsns → is_behind head lsn ≡ true

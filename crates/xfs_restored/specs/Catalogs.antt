@@ -8,14 +8,14 @@ use Rattle.xfs_volume.specs.declared.catalogs.Catalog.{Catalog}
 use Rattle.xfs_volume.specs.declared.groups.GroupRec.{GroupRec}
 use Rattle.xfs_image.specs.Lsns.{lsns_read}
 use Rattle.xfs_image.specs.View.{log_of}
-use Rattle.xfs_made.specs.Groups.{due_groups}
+use Rattle.xfs_rename.specs.xfs_made.Groups.{due_groups}
 use Rattle.xfs_names.specs.declared.building.BuiltDirectory.{BuiltDirectory}
 use Rattle.xfs_names.specs.declared.records.WantedNames.{WantedNames}
 use Rattle.xfs_place.specs.declared.placed.Placed.{Placed}
-use Rattle.xfs_made.specs.Standing.{agf_crc_at, agi_crc_at}
-use Rattle.xfs_request.specs.Chunks.{inodes_wanted}
-use Rattle.xfs_rebuild.specs.Rebuilds.{Ground}
-use Rattle.xfs_rebuild.specs.declared.names_due.NamesDue.{NamesDue}
+use Rattle.xfs_rename.specs.xfs_made.Standing.{agf_crc_at, agi_crc_at}
+use Rattle.xfs_rename.specs.xfs_request.Chunks.{inodes_wanted}
+use Rattle.xfs_rename.specs.xfs_rebuild.Rebuilds.{Ground}
+use Rattle.xfs_rename.specs.xfs_rebuild.declared.names_due.NamesDue.{NamesDue}
 use Rattle.xfs_rename.specs.Lost.{lost_due}
 use Rattle.xfs_rename.specs.Settled.{settled}
 use Rattle.xfs_restored.specs.Relinking.{renamed_dirs, renamed_entries, renamed_files}

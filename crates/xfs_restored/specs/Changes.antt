@@ -6,10 +6,10 @@ use Rattle.xfs_volume.specs.declared.files.FileRec.{FileRec}
 use Rattle.xfs_inodebuild.specs.declared.forks.ForkWanted.{ForkWanted}
 use Rattle.xfs_render.specs.declared.wanted_slots.SlotBase.TheVariants.{Fresh}
 use Rattle.xfs_render.specs.declared.wanted_slots.SlotWanted.{SlotWanted}
-use Rattle.xfs_changes.specs.Slots.{base_made, changed, changed_alone, fork_at, links_held_at, links_set, lost_core}
-use Rattle.xfs_changes.specs.declared.changes.SlotChange.{SlotChange}
-use Rattle.xfs_changes.specs.declared.forks.DirectoryFork.{DirectoryFork}
-use Rattle.xfs_changes.specs.declared.lost_found.Lost.{Lost}
+use Rattle.xfs_rename.specs.xfs_changes.Slots.{base_made, changed, changed_alone, fork_at, links_held_at, links_set, lost_core}
+use Rattle.xfs_rename.specs.xfs_changes.declared.changes.SlotChange.{SlotChange}
+use Rattle.xfs_rename.specs.xfs_changes.declared.forks.DirectoryFork.{DirectoryFork}
+use Rattle.xfs_rename.specs.xfs_changes.declared.lost_found.Lost.{Lost}
 
 -- the change of a slot, where there is one
 abbrev pub first_change : List SlotChange → ℕ → Option SlotChange

@@ -13,9 +13,9 @@ use Rattle.xfs_volume.specs.declared.directories.DirRec.{DirRec}
 use Rattle.xfs_volume.specs.declared.files.FileRec.{FileRec}
 use Rattle.xfs_volume.specs.Rest.{no_rest}
 use Rattle.xfs_salvage.specs.declared.found.Salvaged.{Salvaged}
-use Rattle.xfs_request.specs.Fresh.{new_root_core, new_system_core}
-use Rattle.xfs_request.specs.Slots.{is_bare, links_due, own_blocks, state_at}
-use Rattle.xfs_request.specs.declared.seen.SlotSeen.{SlotSeen}
+use Rattle.xfs_rename.specs.xfs_request.Fresh.{new_root_core, new_system_core}
+use Rattle.xfs_rename.specs.xfs_request.Slots.{is_bare, links_due, own_blocks, state_at}
+use Rattle.xfs_rename.specs.xfs_request.declared.seen.SlotSeen.{SlotSeen}
 
 -- the checksum of the slot of an inode
 abbrev pub stated_crc : Volume → Image → ℕ → ℕ

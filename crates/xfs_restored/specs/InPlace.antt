@@ -4,7 +4,7 @@ use Rattle.xfs_geom.specs.Volumes.{Volume}
 use Rattle.xfs_place.specs.Pool.{is_taken}
 use Rattle.xfs_render.specs.Rendering.{is_head}
 use Rattle.xfs_salvage.specs.Kept.{run_of_cluster}
-use Rattle.xfs_made.specs.Unused.{IsOfLog}
+use Rattle.xfs_rename.specs.xfs_made.Unused.{IsOfLog}
 
 -- the block is the first of a group, one of these clusters, or one of the log
 abbrev pub IsInPlace : Volume → List ℕ → ℕ → Type 0

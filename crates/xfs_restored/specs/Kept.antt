@@ -16,11 +16,11 @@ use Rattle.xfs_rounds.specs.declared.facts.SlotReading.TheVariants as Reading
 use Rattle.xfs_views.specs.SameFiles.{HasSameClaims}
 use Rattle.xfs_render.specs.Slots.{IsSlotDue}
 use Rattle.xfs_salvage.specs.declared.found.Salvaged.{Salvaged}
-use Rattle.xfs_request.specs.Slots.{wanted_slots}
-use Rattle.xfs_request.specs.declared.seen.SlotSeen.{SlotSeen}
-use Rattle.xfs_request.specs.declared.seen.SlotState.{SlotState}
-use Rattle.xfs_request.specs.declared.seen.SlotState.TheVariants as State
-use Rattle.xfs_requested.specs.Handed.{IsKeptOf}
+use Rattle.xfs_rename.specs.xfs_request.Slots.{wanted_slots}
+use Rattle.xfs_rename.specs.xfs_request.declared.seen.SlotSeen.{SlotSeen}
+use Rattle.xfs_rename.specs.xfs_request.declared.seen.SlotState.{SlotState}
+use Rattle.xfs_rename.specs.xfs_request.declared.seen.SlotState.TheVariants as State
+use Rattle.xfs_rename.specs.xfs_requested.Handed.{IsKeptOf}
 use Rattle.xfs_restored.specs.DueFiles.{kept_inodes}
 
 -- what is known of a slot by what it reads as

@@ -14,3 +14,4 @@ pub mod Names
 pub mod Numbered
 pub mod StayingNumbers
 pub mod Laws
+pub use Rattle.xfs_views.specs as xfs_views

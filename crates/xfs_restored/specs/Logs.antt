@@ -5,9 +5,9 @@ use Rattle.xfs_geom.specs.Volumes.{Volume}
 use Rattle.xfs_log.specs.xfs_heads.declared.log_state.LogState.{LogState}
 use Rattle.xfs_log.specs.xfs_heads.declared.log_state.LogState.TheVariants.{Clean}
 use Rattle.xfs_salvage.specs.declared.found.Salvaged.{Salvaged}
-use Rattle.xfs_request.specs.Cycles.{due_cycle, kept_lsns}
-use Rattle.xfs_request.specs.declared.seen.SlotSeen.{SlotSeen}
-use Rattle.xfs_rebuild.specs.Bytes.{file_lsns}
+use Rattle.xfs_rename.specs.xfs_request.Cycles.{due_cycle, kept_lsns}
+use Rattle.xfs_rename.specs.xfs_request.declared.seen.SlotSeen.{SlotSeen}
+use Rattle.xfs_rename.specs.xfs_rebuild.Bytes.{file_lsns}
 
 -- all numbers that stay, in slots and in the blocks of kept files
 abbrev pub numbers_kept : Volume → Image → Salvaged → List SlotSeen → List ℕ

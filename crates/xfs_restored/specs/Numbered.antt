@@ -5,9 +5,9 @@ use Rattle.xfs_naming.specs.Naming.{NumbersAscend, numbers_of}
 use Rattle.xfs_names.specs.declared.records.WantedNames.{WantedNames}
 use Rattle.xfs_salvage.specs.declared.found.Salvaged.{Salvaged}
 use Rattle.xfs_volume.specs.declared.files.FileRec.{FileRec}
-use Rattle.xfs_rebuild.specs.Names.{linked_files}
+use Rattle.xfs_rename.specs.xfs_rebuild.Names.{linked_files}
 use Rattle.xfs_rename.specs.Settled.{staying_file}
-use Rattle.xfs_changes.specs.declared.lost_found.Lost.{Lost}
+use Rattle.xfs_rename.specs.xfs_changes.declared.lost_found.Lost.{Lost}
 
 -- the numbers of the pairs of names and links
 abbrev pub numbers_linked : WantedNames → List ℕ

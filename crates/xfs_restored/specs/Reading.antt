@@ -18,10 +18,10 @@ use Rattle.xfs_volume.specs.declared.cores.Core.{Core}
 use Rattle.xfs_volume.specs.declared.files.FileRec.{FileRec}
 use Rattle.xfs_render.specs.declared.wanted_slots.SlotBase.TheVariants.{Fresh, Kept}
 use Rattle.xfs_render.specs.declared.wanted_slots.SlotWanted.{SlotWanted}
-use Rattle.xfs_request.specs.Slots.{own_blocks}
-use Rattle.xfs_built.specs.Extents.{extent_of_run}
+use Rattle.xfs_rename.specs.xfs_request.Slots.{own_blocks}
+use Rattle.xfs_rename.specs.xfs_built.Extents.{extent_of_run}
 use Rattle.xfs_restored.specs.DueFiles.{linked_core, plain_core}
-use Rattle.xfs_built.specs.Directories.{BuiltRuns, FitsExtent}
+use Rattle.xfs_rename.specs.xfs_built.Directories.{BuiltRuns, FitsExtent}
 
 -- extents, with no tree
 abbrev pub fork_contents : List Extent → Contents Extent

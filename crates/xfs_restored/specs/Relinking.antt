@@ -12,24 +12,24 @@ use Rattle.xfs_volume.specs.declared.cores.Core.{Core}
 use Rattle.xfs_volume.specs.declared.directories.DirRec.{DirRec}
 use Rattle.xfs_volume.specs.declared.files.FileRec.{FileRec}
 use Rattle.xfs_naming.specs.Naming.{entries_in, file_at}
-use Rattle.xfs_scan.specs.Evidence.{IsEvidence}
-use Rattle.xfs_scan.specs.declared.evidence.Evidence.{Evidence}
+use Rattle.xfs_rename.specs.xfs_scan.Evidence.{IsEvidence}
+use Rattle.xfs_rename.specs.xfs_scan.declared.evidence.Evidence.{Evidence}
 use Rattle.xfs_names.specs.declared.building.BuiltDirectory.{BuiltDirectory}
 use Rattle.xfs_names.specs.declared.records.WantedNames.{WantedNames}
 use Rattle.xfs_place.specs.declared.placed.Placed.{Placed}
-use Rattle.xfs_request.specs.Slots.{is_bare, own_blocks, state_at}
-use Rattle.xfs_request.specs.declared.seen.SlotSeen.{SlotSeen}
-use Rattle.xfs_rebuild.specs.Names.{new_file}
-use Rattle.xfs_rebuild.specs.Rebuilds.{AreNamesDue, Ground, IsFound, IsGround, names_change}
-use Rattle.xfs_rebuild.specs.declared.names_due.NamesDue.{NamesDue}
-use Rattle.xfs_built.specs.Extents.{extent_of_run}
+use Rattle.xfs_rename.specs.xfs_request.Slots.{is_bare, own_blocks, state_at}
+use Rattle.xfs_rename.specs.xfs_request.declared.seen.SlotSeen.{SlotSeen}
+use Rattle.xfs_rename.specs.xfs_rebuild.Names.{new_file}
+use Rattle.xfs_rename.specs.xfs_rebuild.Rebuilds.{AreNamesDue, Ground, IsFound, IsGround, names_change}
+use Rattle.xfs_rename.specs.xfs_rebuild.declared.names_due.NamesDue.{NamesDue}
+use Rattle.xfs_rename.specs.xfs_built.Extents.{extent_of_run}
 use Rattle.xfs_rename.specs.Lost.{lost_due}
-use Rattle.xfs_built.specs.Asks.{stands_in_blocks}
+use Rattle.xfs_rename.specs.xfs_built.Asks.{stands_in_blocks}
 use Rattle.xfs_rename.specs.Renames.{IsRenamed, old_files}
-use Rattle.xfs_changes.specs.Slots.{lost_core}
-use Rattle.xfs_changes.specs.declared.lost_found.Lost.{Lost}
+use Rattle.xfs_rename.specs.xfs_changes.Slots.{lost_core}
+use Rattle.xfs_rename.specs.xfs_changes.declared.lost_found.Lost.{Lost}
 use Rattle.xfs_rename.specs.declared.planning.Renamed.{Renamed}
-use Rattle.xfs_built.specs.Directories.{BuiltRuns, with_runs}
+use Rattle.xfs_rename.specs.xfs_built.Directories.{BuiltRuns, with_runs}
 use Rattle.xfs_restored.specs.RunForks.{fork_of_runs}
 use Rattle.xfs_restored.specs.Reading.{forked_core, forked_file}
 use Rattle.xfs_restored.specs.Rewriting.{IsRewritten}

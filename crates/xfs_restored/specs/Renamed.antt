@@ -10,8 +10,8 @@ use Rattle.xfs_place.specs.Objects.{ServeAsks, asks_of}
 use Rattle.xfs_place.specs.declared.placed.Placed.{Placed}
 use Rattle.xfs_render.specs.Objects.{HasObjects, object_blocks}
 use Rattle.xfs_render.specs.declared.bytes.Bytes.{Bytes}
-use Rattle.xfs_rebuild.specs.declared.names_due.NamesDue.{NamesDue}
-use Rattle.xfs_built.specs.Asks.{blocks_of_built}
+use Rattle.xfs_rename.specs.xfs_rebuild.declared.names_due.NamesDue.{NamesDue}
+use Rattle.xfs_rename.specs.xfs_built.Asks.{blocks_of_built}
 use Rattle.xfs_rename.specs.Renames.{AreBuilt, renamed_wanted}
 
 -- the directories can be built of the names that are wanted, and were; the runs of their objects are those of their asks; and the image

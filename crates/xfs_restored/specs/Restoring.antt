@@ -12,11 +12,11 @@ use Rattle.xfs_volume.specs.declared.groups.GroupRec.{GroupRec}
 use Rattle.xfs_image.specs.Lsns.{lsns_read}
 use Rattle.xfs_image.specs.View.{log_of}
 use Rattle.xfs_place.specs.declared.placed.Placed.{Placed}
-use Rattle.xfs_made.specs.Groups.{due_groups}
-use Rattle.xfs_made.specs.Standing.{agf_crc_at, agi_crc_at}
-use Rattle.xfs_made.specs.Volumes.{Checksums}
-use Rattle.xfs_request.specs.Chunks.{inodes_wanted}
-use Rattle.xfs_rebuild.specs.Rebuilds.{Ground}
+use Rattle.xfs_rename.specs.xfs_made.Groups.{due_groups}
+use Rattle.xfs_rename.specs.xfs_made.Standing.{agf_crc_at, agi_crc_at}
+use Rattle.xfs_rename.specs.xfs_made.Volumes.{Checksums}
+use Rattle.xfs_rename.specs.xfs_request.Chunks.{inodes_wanted}
+use Rattle.xfs_rename.specs.xfs_rebuild.Rebuilds.{Ground}
 use Rattle.xfs_restored.specs.DueFiles.{rebuilt_dirs, rebuilt_files, stated_crc}
 
 -- the groups, with the chunks of the kept clusters and what is placed in each; the kept files and those that are made anew

@@ -3,11 +3,11 @@ use Rattle.std.specs.Prelude.{◌≡◌, if◌then◌else◌, List, Some}
 use Rattle.xfs_geom.specs.Volumes.{Volume}
 use Rattle.xfs_volume.specs.declared.files.FileRec.{FileRec}
 use Rattle.xfs_inodebuild.specs.declared.forks.ForkWanted.{ForkWanted}
-use Rattle.xfs_built.specs.Asks.{stands_in_blocks}
-use Rattle.xfs_built.specs.Directories.{BuiltRuns}
-use Rattle.xfs_changes.specs.Forks.{attribute_blocks_at, extents_fork, short_fork}
-use Rattle.xfs_changes.specs.Slots.{fork_at}
-use Rattle.xfs_changes.specs.declared.forks.DirectoryFork.{DirectoryFork}
+use Rattle.xfs_rename.specs.xfs_built.Asks.{stands_in_blocks}
+use Rattle.xfs_rename.specs.xfs_built.Directories.{BuiltRuns}
+use Rattle.xfs_rename.specs.xfs_changes.Forks.{attribute_blocks_at, extents_fork, short_fork}
+use Rattle.xfs_rename.specs.xfs_changes.Slots.{fork_at}
+use Rattle.xfs_rename.specs.xfs_changes.declared.forks.DirectoryFork.{DirectoryFork}
 
 -- the fork of a directory by its runs, beside the attributes of its file; and that directory finds it among some forks
 abbrev pub fork_of_runs : Volume → List FileRec → BuiltRuns → ForkWanted

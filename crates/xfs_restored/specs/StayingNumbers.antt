@@ -11,11 +11,11 @@ use Rattle.xfs_volume.specs.Names.{type_of}
 use Rattle.xfs_volume.specs.declared.files.FileRec.{FileRec}
 use Rattle.xfs_views.specs.SameFiles.{HasSameClaims}
 use Rattle.xfs_render.specs.Slots.{wanted_of}
-use Rattle.xfs_built.specs.Bases.{StartsAtZero}
+use Rattle.xfs_rename.specs.xfs_built.Bases.{StartsAtZero}
 use Rattle.xfs_render.specs.declared.wanted_slots.SlotBase.TheVariants as Base
 use Rattle.xfs_render.specs.declared.wanted_slots.SlotWanted.{SlotWanted}
 use Rattle.xfs_salvage.specs.declared.found.Salvaged.{Salvaged}
-use Rattle.xfs_request.specs.Slots.{is_free}
+use Rattle.xfs_rename.specs.xfs_request.Slots.{is_free}
 use Rattle.xfs_restored.specs.Kept.{slot_seen}
 
 abbrev pub IsMadeAnew : Option SlotWanted → Type 0

@@ -10,11 +10,11 @@ ghost use Rattle.xfs_geom.specs.declared.geometry.Geometry.{Geometry};
 ghost use Rattle.xfs_image.specs.Claims.{candidate_inodes};
 ghost use Rattle.xfs_image.specs.Slots.{reads_as};
 ghost use Rattle.xfs_naming.specs.Naming.{is_in_use};
-ghost use Rattle.xfs_slots.specs.Facts.{slot_fact};
-ghost use Rattle.xfs_slots.specs.Gathered.{bare_inodes};
+ghost use Rattle.xfs_rename.specs.xfs_slots.Facts.{slot_fact};
+ghost use Rattle.xfs_rename.specs.xfs_slots.Gathered.{bare_inodes};
 ghost use Rattle.xfs_volume.specs.declared.files.FileRec.{FileRec};
 ghost use Rattle.xfs_salvage.specs.declared.found.Salvaged.{Salvaged};
-ghost use Rattle.xfs_request.specs.declared.seen.SlotSeen.{SlotSeen};
+ghost use Rattle.xfs_rename.specs.xfs_request.declared.seen.SlotSeen.{SlotSeen};
 ghost use Rattle.xfs_restored.specs.DueFiles.{due_file, fresh_file, kept_inodes, stated_crc};
 ghost use Rattle.xfs_restored.specs.Kept.{HasKept, state_by, state_read};
 

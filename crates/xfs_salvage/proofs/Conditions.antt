@@ -12,11 +12,11 @@ use Rattle.xfs_geom.specs.declared.geometry.Geometry.{Geometry}
 use Rattle.xfs_geom.specs.declared.records.Run.{Run}
 use Rattle.xfs_volume.specs.declared.clusters.ClusterRec.{ClusterRec}
 use Rattle.xfs_volume.specs.declared.files.FileRec.{FileRec}
-use Rattle.xfs_space.specs.Owners.{attribute_flag, runs_of_blocks, extent_run, file_runs, new_run, tree_flag}
-use Rattle.xfs_space.specs.Parts.{HasLawfulForks}
-use Rattle.xfs_space.specs.Private.Places.{IsPlacedExtent}
-use Rattle.xfs_space.proofs.Lawful.{placed}
-use Rattle.xfs_space.proofs.RecordedMaps.{group_inside}
+use Rattle.xfs_views.specs.xfs_space.Owners.{attribute_flag, runs_of_blocks, extent_run, file_runs, new_run, tree_flag}
+use Rattle.xfs_views.specs.xfs_space.Parts.{HasLawfulForks}
+use Rattle.xfs_views.specs.xfs_space.Private.Places.{IsPlacedExtent}
+use Rattle.xfs_views.proofs.xfs_space.Lawful.{placed}
+use Rattle.xfs_views.proofs.xfs_space.RecordedMaps.{group_inside}
 use Rattle.xfs_claims.specs.declared.claimants.Claims.{Claims}
 use Rattle.xfs_claims.specs.declared.claimants.FileClaim.{FileClaim}
 use Rattle.xfs_claims.specs.Keeping.{EndsLow, IsClaim}

@@ -9,7 +9,7 @@ use Rattle.xfs_volume.specs.Names.{is_directory}
 use Rattle.xfs_volume.specs.declared.clusters.ClusterRec.{ClusterRec}
 use Rattle.xfs_volume.specs.declared.directories.DirRec.{DirRec}
 use Rattle.xfs_volume.specs.declared.files.FileRec.{FileRec}
-use Rattle.xfs_space.proofs.OwnedRuns.{from_head}
+use Rattle.xfs_views.proofs.xfs_space.OwnedRuns.{from_head}
 use Rattle.xfs_naming.specs.Naming.{is_directory_at, numbers_of}
 use Rattle.xfs_views.specs.Standing.{stands}
 use Rattle.xfs_salvage.specs.Kept.{dirs_among, entries_among, claims_held, kept_files, is_kept_file}

@@ -3,11 +3,11 @@ use Rattle.std.specs.Prelude.{◌≡◌, ℕ, true, ◌+◌, ◌^◌, ◌≤◌,
 use Rattle.xfs_geom.specs.Volumes.{Volume}
 use Rattle.xfs_volume.specs.declared.clusters.ClusterRec.{ClusterRec}
 use Rattle.xfs_volume.specs.declared.files.FileRec.{FileRec}
-use Rattle.xfs_space.specs.Owners.{file_runs}
-use Rattle.xfs_space.specs.Parts.{HasLawfulForks}
+use Rattle.xfs_views.specs.xfs_space.Owners.{file_runs}
+use Rattle.xfs_views.specs.xfs_space.Parts.{HasLawfulForks}
 use Rattle.xfs_claims.specs.Ranks.{is_recorded_cluster}
 use Rattle.xfs_claims.specs.Spans.{SpansApart, spans_of}
-use Rattle.xfs_image.specs.Clusters.{root_cluster}
+use Rattle.xfs_views.specs.xfs_image.Clusters.{root_cluster}
 
 -- the clusters ascend, no two have a block in common, and they end by a block; the first begins at a block or behind it
 abbrev pub AscendWithin : ℕ → ℕ → List ClusterRec → Type 0

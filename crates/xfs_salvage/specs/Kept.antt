@@ -10,7 +10,7 @@ use Rattle.xfs_geom.specs.declared.records.Run.{Run}
 use Rattle.xfs_volume.specs.declared.clusters.ClusterRec.{ClusterRec}
 use Rattle.xfs_volume.specs.declared.directories.DirRec.{DirRec}
 use Rattle.xfs_volume.specs.declared.files.FileRec.{FileRec}
-use Rattle.xfs_space.specs.Owners.{file_runs, new_run}
+use Rattle.xfs_views.specs.xfs_space.Owners.{file_runs, new_run}
 use Rattle.xfs_naming.specs.Naming.{is_directory_at, is_in_use}
 use Rattle.xfs_claims.specs.Keeping.{Holding, kept_of}
 use Rattle.xfs_views.specs.Claimed.{claims_in}

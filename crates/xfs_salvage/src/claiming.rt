@@ -4,7 +4,7 @@ ghost use Rattle.std.specs.Prelude.{◌≡◌, ◌==◌, ◌&&◌, ◌↔◌, Is
 ghost use Rattle.std.specs.Option.{SomeIff};
 ghost use Rattle.xfs_geom.specs.Volumes.{volume_of};
 ghost use Rattle.xfs_claims.specs.Ranks.{is_recorded_cluster};
-ghost use Rattle.xfs_image.specs.Clusters.{cluster_of, root_cluster};
+ghost use Rattle.xfs_views.specs.xfs_image.Clusters.{cluster_of, root_cluster};
 ghost use Rattle.xfs_views.specs.Claimed.{claims_in, file_claim};
 ghost use Rattle.xfs_kinds.specs.FixedRuns.{fixed_runs};
 ghost use Rattle.xfs_salvage.specs.Claimable.{AscendClaiming, CanBeSalvaged, CanClaim};

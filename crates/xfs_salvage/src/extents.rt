@@ -4,7 +4,7 @@ ghost use Rattle.std.specs.Prelude.{◌≡◌, ◌<◌, ◌↔◌, None, IsTrue}
 ghost use Rattle.std.specs.List.{All};
 ghost use Rattle.xfs_geom.specs.Volumes.{volume_of};
 ghost use Rattle.xfs_kinds.specs.FileTrees.{bmbt_shape};
-ghost use Rattle.xfs_space.specs.Parts.{HasLawfulForks};
+ghost use Rattle.xfs_views.specs.xfs_space.Parts.{HasLawfulForks};
 ghost use Rattle.xfs_tree.specs.Rules.{are_lawful};
 
 use xfs_geom::Geometry;

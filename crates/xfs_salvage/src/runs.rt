@@ -3,11 +3,11 @@
 ghost use Rattle.std.specs.Prelude.{◌≡◌, ◌++◌, ◌<◌, ◌↔◌, ◌^◌, ◌≤◌, IsTrue, map, IfOk, OnOk};
 ghost use Rattle.std.specs.List.{All};
 ghost use Rattle.xfs_geom.specs.Volumes.{volume_of};
-ghost use Rattle.xfs_image.specs.Clusters.{cluster_of, root_cluster};
+ghost use Rattle.xfs_views.specs.xfs_image.Clusters.{cluster_of, root_cluster};
 ghost use Rattle.xfs_claims.specs.Spans.{SpansApart, IsRun, spans_of};
-ghost use Rattle.xfs_space.specs.Owners.{runs_of_blocks, extent_run, extent_word, file_runs};
-ghost use Rattle.xfs_space.specs.Parts.{HasLawfulForks};
-ghost use Rattle.xfs_space.specs.Private.Places.{IsPlacedExtent};
+ghost use Rattle.xfs_views.specs.xfs_space.Owners.{runs_of_blocks, extent_run, extent_word, file_runs};
+ghost use Rattle.xfs_views.specs.xfs_space.Parts.{HasLawfulForks};
+ghost use Rattle.xfs_views.specs.xfs_space.Private.Places.{IsPlacedExtent};
 
 use std::alloc::Global;
 use std::sync::ledger::Ledger;

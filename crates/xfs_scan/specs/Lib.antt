@@ -1,3 +1,4 @@
 pub mod Answers
 pub mod Refused
 pub mod Evidence
+pub use Rattle.xfs_slots.specs as xfs_slots

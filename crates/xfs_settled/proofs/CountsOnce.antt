@@ -9,15 +9,15 @@ use Rattle.std.proofs.lemmas.List.Sums.{length-filter, sum_by-append, sum_by-con
 use Rattle.xfs_disk.specs.Blocks.{Image, bytes_of_block}
 use Rattle.xfs_place.specs.declared.placed.Placed.{Placed}
 use Rattle.xfs_place.specs.declared.wanted.Wanted.{Wanted}
-use Rattle.xfs_rebuild.specs.Differing.{differs, left_to_write}
-use Rattle.xfs_rebuild.specs.Rebuilds.{IsLeft}
-use Rattle.xfs_rebuild.specs.declared.planning.Rebuilt.{Rebuilt}
+use Rattle.xfs_mend.specs.xfs_rebuild.Differing.{differs, left_to_write}
+use Rattle.xfs_mend.specs.xfs_rebuild.Rebuilds.{IsLeft}
+use Rattle.xfs_mend.specs.xfs_rebuild.declared.planning.Rebuilt.{Rebuilt}
 use Rattle.xfs_render.specs.Drafts.{HoldsRows, row_places}
 use Rattle.xfs_render.specs.Plans.{HoldsPlan, plan_rows, planned}
 use Rattle.xfs_render.specs.Rendering.{IsRendered, blocks_in_place, fresh_blocks}
 use Rattle.xfs_render.specs.declared.bytes.Bytes.{Bytes}
 use Rattle.xfs_render.specs.declared.plan.Plan.{Plan}
-use Rattle.xfs_restored.proofs.RowsWritten.{both_left, planned_is}
+use Rattle.xfs_mend.proofs.xfs_restored.RowsWritten.{both_left, planned_is}
 use Rattle.xfs_writing.specs.declared.rows.Row.{Row}
 
 -- all blocks that are planned

@@ -21,20 +21,20 @@ use Rattle.xfs_place.specs.declared.placed.Placed.{Placed}
 use Rattle.xfs_place.specs.declared.wanted.Wanted.{Wanted}
 use Rattle.xfs_views.proofs.Members.{Member, all_members, filter_member, member_all, member_any, member_map}
 use Rattle.xfs_volume.specs.declared.files.FileRec.{FileRec}
-use Rattle.xfs_rebuild.specs.Changes.{can_fork}
-use Rattle.xfs_rebuild.specs.declared.names_due.NamesDue.{NamesDue}
+use Rattle.xfs_mend.specs.xfs_rebuild.Changes.{can_fork}
+use Rattle.xfs_mend.specs.xfs_rebuild.declared.names_due.NamesDue.{NamesDue}
 use Rattle.xfs_changes.specs.Forks.{attribute_blocks_at, extents_fork, fork_listed, forks_of, short_fork}
 use Rattle.xfs_built.specs.Asks.{stands_in_blocks}
-use Rattle.xfs_rename.specs.Objects.{wanted_with}
-use Rattle.xfs_rename.specs.Renames.{AreBuilt, old_files, placed_forks, renamed_wanted}
+use Rattle.xfs_mend.specs.xfs_rename.Objects.{wanted_with}
+use Rattle.xfs_mend.specs.xfs_rename.Renames.{AreBuilt, old_files, placed_forks, renamed_wanted}
 use Rattle.xfs_changes.specs.Rooms.{fork_rooms}
 use Rattle.xfs_changes.specs.Slots.{first_fork, fork_at}
 use Rattle.xfs_changes.specs.declared.forks.DirectoryFork.{DirectoryFork}
-use Rattle.xfs_restored.proofs.BuiltRooms.{all_own}
-use Rattle.xfs_restored.proofs.Extents.{run_fits, runs_long}
-use Rattle.xfs_restored.proofs.FewRuns.{all_few}
-use Rattle.xfs_restored.proofs.Planned.{all_of_both, all_runs}
-use Rattle.xfs_restored.proofs.ShortRoom.{short_fits}
+use Rattle.xfs_mend.proofs.xfs_restored.BuiltRooms.{all_own}
+use Rattle.xfs_mend.proofs.xfs_restored.Extents.{run_fits, runs_long}
+use Rattle.xfs_mend.proofs.xfs_restored.FewRuns.{all_few}
+use Rattle.xfs_mend.proofs.xfs_restored.Planned.{all_of_both, all_runs}
+use Rattle.xfs_mend.proofs.xfs_restored.ShortRoom.{short_fits}
 use Rattle.xfs_built.specs.Directories.{BuiltRuns, FitsExtent, HasOwnCounts, asks_of_built, built_runs, runs_of_built, with_runs}
 use Rattle.xfs_built.specs.Pieces.{IsLowRun}
 use Rattle.xfs_settled.proofs.ServedForks.{all_back, all_inside, all_low, all_sized}

@@ -5,12 +5,12 @@ use Rattle.xfs_geom.specs.Volumes.{volume_of}
 use Rattle.xfs_geom.specs.declared.geometry.Geometry.{Geometry}
 use Rattle.xfs_image.specs.Candidates.{candidates}
 use Rattle.xfs_image.specs.Claims.{candidate_files}
-use Rattle.xfs_requested.specs.Handed.{IsKeptOf}
+use Rattle.xfs_mend.specs.xfs_requested.Handed.{IsKeptOf}
 use Rattle.xfs_scan.specs.declared.evidence.Evidence.{Evidence}
-use Rattle.xfs_rebuild.specs.Rebuilds.{Ground, HasNamesDue, IsFound}
-use Rattle.xfs_rebuild.specs.declared.names_due.NamesDue.{NamesDue}
-use Rattle.xfs_restored.proofs.Handed.{kept_of_image}
-use Rattle.xfs_restored.proofs.Relinked.{ground_found}
+use Rattle.xfs_mend.specs.xfs_rebuild.Rebuilds.{Ground, HasNamesDue, IsFound}
+use Rattle.xfs_mend.specs.xfs_rebuild.declared.names_due.NamesDue.{NamesDue}
+use Rattle.xfs_mend.proofs.xfs_restored.Handed.{kept_of_image}
+use Rattle.xfs_mend.proofs.xfs_restored.Relinked.{ground_found}
 use Rattle.xfs_settled.specs.Gathered.{IsGathered}
 
 module _ (g : Geometry) (s : Stamp) (image : Image) (e : Evidence) (on : Ground) (n : NamesDue) (has : IsGathered g s image e on n) where

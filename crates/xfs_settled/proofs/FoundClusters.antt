@@ -12,8 +12,8 @@ use Rattle.xfs_place.specs.Chunks.{asked_pool, asked_rooms, is_room, lies_in_chu
 use Rattle.xfs_place.specs.Pool.{is_listed, is_pool, is_taken, is_unspared}
 use Rattle.xfs_views.proofs.Members.{Member, filter_member, flat_member, map_member, member_row, row_member}
 use Rattle.xfs_space.proofs.RecordedMaps.{group_inside}
-use Rattle.xfs_rebuild.specs.declared.names_due.NamesDue.{NamesDue}
-use Rattle.xfs_rename.specs.Lost.{added, added_for, cluster_ask, cluster_found, first_of, place_due, spared}
+use Rattle.xfs_mend.specs.xfs_rebuild.declared.names_due.NamesDue.{NamesDue}
+use Rattle.xfs_mend.specs.xfs_rename.Lost.{added, added_for, cluster_ask, cluster_found, first_of, place_due, spared}
 
 -- what passes of a list passes of each that it has
 all_pass : {X : Type 0} (test : X → Bool) (x : X) (xs : List X) → list_all test xs ≡ true → Member x xs → test x ≡ true

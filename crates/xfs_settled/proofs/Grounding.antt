@@ -13,10 +13,10 @@ use Rattle.xfs_image.specs.Candidates.{candidates}
 use Rattle.xfs_image.specs.Claims.{candidate_files}
 use Rattle.xfs_image.specs.Directories.{dirs_read, entries_read}
 use Rattle.xfs_image.specs.View.{log_of}
-use Rattle.xfs_rebuild.specs.Bytes.{AreAtHand, AreReadOf}
-use Rattle.xfs_rebuild.specs.Found.{IsKept, reserved_of}
-use Rattle.xfs_rebuild.specs.Rebuilds.{Ground, IsGround}
-use Rattle.xfs_rebuild.specs.Seen.{slots_seen}
+use Rattle.xfs_mend.specs.xfs_rebuild.Bytes.{AreAtHand, AreReadOf}
+use Rattle.xfs_mend.specs.xfs_rebuild.Found.{IsKept, reserved_of}
+use Rattle.xfs_mend.specs.xfs_rebuild.Rebuilds.{Ground, IsGround}
+use Rattle.xfs_mend.specs.xfs_rebuild.Seen.{slots_seen}
 use Rattle.xfs_render.specs.declared.bytes.Bytes.{Bytes}
 use Rattle.xfs_render.specs.declared.wanted_slots.SlotWanted.{SlotWanted}
 use Rattle.xfs_salvage.specs.Kept.{entries_of_kept, fresh_inodes, kept_clusters, kept_dirs, kept_files}

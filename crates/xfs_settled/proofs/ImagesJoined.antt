@@ -6,19 +6,19 @@ use Rattle.xfs_geom.specs.Volumes.{volume_of}
 use Rattle.xfs_geom.specs.declared.geometry.Geometry.{Geometry}
 use Rattle.xfs_place.specs.declared.placed.Placed.{Placed}
 use Rattle.xfs_place.specs.declared.wanted.Wanted.{Wanted}
-use Rattle.xfs_rebuild.proofs.Served.{slots_serve}
-use Rattle.xfs_rebuild.specs.Bytes.{file_lsns}
-use Rattle.xfs_rebuild.specs.Changes.{CanChangeAll}
-use Rattle.xfs_rebuild.specs.Rebuilds.{AreBytesOf, Ground, IsPlannedOn, IsRebuildOf, asked, slots_asked}
-use Rattle.xfs_rebuild.specs.declared.planning.Rebuilt.{Rebuilt}
+use Rattle.xfs_mend.proofs.xfs_rebuild.Served.{slots_serve}
+use Rattle.xfs_mend.specs.xfs_rebuild.Bytes.{file_lsns}
+use Rattle.xfs_mend.specs.xfs_rebuild.Changes.{CanChangeAll}
+use Rattle.xfs_mend.specs.xfs_rebuild.Rebuilds.{AreBytesOf, Ground, IsPlannedOn, IsRebuildOf, asked, slots_asked}
+use Rattle.xfs_mend.specs.xfs_rebuild.declared.planning.Rebuilt.{Rebuilt}
 use Rattle.xfs_render.specs.Clusters.{CanCluster}
 use Rattle.xfs_render.specs.Objects.{blocks_of_asks, object_blocks}
 use Rattle.xfs_render.specs.declared.bytes.Bytes.{Bytes}
 use Rattle.xfs_render.specs.declared.wanted_slots.SlotWanted.{SlotWanted}
 use Rattle.xfs_request.specs.Cycles.{kept_lsns}
 use Rattle.xfs_request.specs.Requests.{volume_wanted}
-use Rattle.xfs_restored.proofs.Standing.{holds, others_stay}
-use Rattle.xfs_restored.specs.Rewriting.{IsRewritten}
+use Rattle.xfs_mend.proofs.xfs_restored.Standing.{holds, others_stay}
+use Rattle.xfs_mend.specs.xfs_restored.Rewriting.{IsRewritten}
 use Rattle.xfs_scan.specs.Evidence.{IsEvidence}
 use Rattle.xfs_scan.specs.declared.evidence.Evidence.{Evidence}
 use Rattle.xfs_settled.proofs.Grounding.{bytes_one, ground_one}

@@ -16,8 +16,8 @@ use Rattle.xfs_place.specs.declared.placed.GroupPlaced.{GroupPlaced}
 use Rattle.xfs_place.specs.declared.placed.Placed.{Placed}
 use Rattle.xfs_place.specs.declared.wanted.Wanted.{Wanted}
 use Rattle.xfs_views.proofs.Members.{Member, any_member, contains, filter_member, map_member, member_all, member_either, row_member}
-use Rattle.xfs_rebuild.specs.Rebuilds.{IsLeft}
-use Rattle.xfs_rebuild.specs.declared.planning.Rebuilt.{Rebuilt}
+use Rattle.xfs_mend.specs.xfs_rebuild.Rebuilds.{IsLeft}
+use Rattle.xfs_mend.specs.xfs_rebuild.declared.planning.Rebuilt.{Rebuilt}
 use Rattle.xfs_render.specs.Clusters.{CanCluster}
 use Rattle.xfs_render.specs.Drafts.{row_places}
 use Rattle.xfs_render.specs.HeaderBlocks.{IsHeaderBlock}

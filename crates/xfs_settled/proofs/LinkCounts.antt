@@ -10,9 +10,9 @@ use Rattle.xfs_naming.specs.Naming.{entries_in, entries_to}
 use Rattle.xfs_names.specs.Built.{CanBeBuilt}
 use Rattle.xfs_names.specs.Wanted.{link_count, wanted_entries, wanted_nodes, with_links}
 use Rattle.xfs_names.specs.declared.records.WantedNames.{WantedNames}
-use Rattle.xfs_rebuild.specs.declared.names_due.NamesDue.{NamesDue}
+use Rattle.xfs_mend.specs.xfs_rebuild.declared.names_due.NamesDue.{NamesDue}
 use Rattle.xfs_changes.specs.Nodes.{nodes_of_files}
-use Rattle.xfs_rename.specs.Settled.{AreWanted}
+use Rattle.xfs_mend.specs.xfs_rename.Settled.{AreWanted}
 use Rattle.xfs_changes.specs.declared.lost_found.Lost.{Lost}
 
 few_of : (test : EntryRec → Bool) (xs : List EntryRec) → length (filter test xs) ≤ length xs

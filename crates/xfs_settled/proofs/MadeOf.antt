@@ -12,9 +12,9 @@ use Rattle.xfs_render.specs.Slots.{CanBase, CanFork, CanMake, forkoff_of}
 use Rattle.xfs_render.specs.declared.wanted_slots.SlotBase.{SlotBase}
 use Rattle.xfs_render.specs.declared.wanted_slots.SlotBase.TheVariants as Base
 use Rattle.xfs_render.specs.declared.wanted_slots.SlotWanted.{SlotWanted}
-use Rattle.xfs_rebuild.specs.Changes.{can_base, can_fork, can_make, is_whole_slot}
+use Rattle.xfs_mend.specs.xfs_rebuild.Changes.{can_base, can_fork, can_make, is_whole_slot}
 use Rattle.xfs_changes.specs.declared.changes.SlotChange.{SlotChange}
-use Rattle.xfs_restored.specs.Changes.{first_change, with_change}
+use Rattle.xfs_mend.specs.xfs_restored.Changes.{first_change, with_change}
 
 -- what can be made of a slot passes the test
 base_passes : (v : Volume) (ino : ℕ) (base : SlotBase) (old : List ℕ) → CanBase v ino base old → forkoff_of base old ≤ 41 → can_base v ino base old ≡ true

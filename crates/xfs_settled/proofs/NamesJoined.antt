@@ -15,35 +15,35 @@ use Rattle.xfs_names.specs.declared.records.WantedNames.{WantedNames}
 use Rattle.xfs_place.specs.Objects.{ServeAsks, asks_of}
 use Rattle.xfs_place.specs.declared.placed.Placed.{Placed}
 use Rattle.xfs_place.specs.declared.wanted.Wanted.{Wanted}
-use Rattle.xfs_rebuild.specs.Bytes.{AreAtHand}
-use Rattle.xfs_rebuild.specs.Changes.{CanChangeAll}
-use Rattle.xfs_rebuild.specs.Rebuilds.{AreNamesDue, Ground, slots_asked}
-use Rattle.xfs_rebuild.specs.declared.names_due.NamesDue.{NamesDue}
+use Rattle.xfs_mend.specs.xfs_rebuild.Bytes.{AreAtHand}
+use Rattle.xfs_mend.specs.xfs_rebuild.Changes.{CanChangeAll}
+use Rattle.xfs_mend.specs.xfs_rebuild.Rebuilds.{AreNamesDue, Ground, slots_asked}
+use Rattle.xfs_mend.specs.xfs_rebuild.declared.names_due.NamesDue.{NamesDue}
 use Rattle.xfs_changes.specs.Forks.{forks_of}
-use Rattle.xfs_rename.specs.Lost.{lost_due}
+use Rattle.xfs_mend.specs.xfs_rename.Lost.{lost_due}
 use Rattle.xfs_built.specs.Asks.{blocks_of_built}
-use Rattle.xfs_rename.specs.Objects.{wanted_with}
-use Rattle.xfs_rename.specs.Renames.{AreBuilt, AreRenamedBytes, IsRenamed, lsns_due, old_files, placed_forks, renamed_slots, renamed_wanted}
+use Rattle.xfs_mend.specs.xfs_rename.Objects.{wanted_with}
+use Rattle.xfs_mend.specs.xfs_rename.Renames.{AreBuilt, AreRenamedBytes, IsRenamed, lsns_due, old_files, placed_forks, renamed_slots, renamed_wanted}
 use Rattle.xfs_changes.specs.Rooms.{fork_rooms}
-use Rattle.xfs_rename.specs.Settled.{settled}
+use Rattle.xfs_mend.specs.xfs_rename.Settled.{settled}
 use Rattle.xfs_changes.specs.declared.forks.DirectoryFork.{DirectoryFork}
-use Rattle.xfs_rename.specs.declared.planning.Renamed.{Renamed}
+use Rattle.xfs_mend.specs.xfs_rename.declared.planning.Renamed.{Renamed}
 use Rattle.xfs_render.proofs.ReadyObjects.{objects_counted}
 use Rattle.xfs_render.specs.Clusters.{CanCluster}
 use Rattle.xfs_render.specs.Objects.{asks_with_kind, blocks_of_asks, object_blocks}
 use Rattle.xfs_render.specs.declared.bytes.Bytes.{Bytes}
 use Rattle.xfs_render.specs.declared.wanted_slots.SlotWanted.{SlotWanted}
-use Rattle.xfs_restored.proofs.HeldPlans.{others_stay, renamed_holds}
+use Rattle.xfs_mend.proofs.xfs_restored.HeldPlans.{others_stay, renamed_holds}
 use Rattle.xfs_built.proofs.Sized.{built_sized}
 use Rattle.xfs_built.specs.Directories.{HasOwnCounts}
-use Rattle.xfs_restored.specs.Relinking.{IsRelinked}
-use Rattle.xfs_restored.specs.Rewriting.{IsRewritten}
+use Rattle.xfs_mend.specs.xfs_restored.Relinking.{IsRelinked}
+use Rattle.xfs_mend.specs.xfs_restored.Rewriting.{IsRewritten}
 use Rattle.xfs_scan.specs.declared.evidence.Evidence.{Evidence}
 use Rattle.xfs_settled.proofs.BuiltOnce.{AreAlike, blocks_alike, blocks_counted, built_alike, built_sealed, forks_alike, objects_alike}
 use Rattle.xfs_settled.proofs.Grounding.{bytes_one, ground_one}
 use Rattle.xfs_settled.proofs.ImagesOnce.{CanSeal, CanServe, IsPut, IsSameWork, works_one}
 use Rattle.xfs_settled.proofs.NamesOnce.{cuts_one, due_one, names_one, placed_some}
-use Rattle.xfs_rename.proofs.RenamedSlots.{renamed_serve}
+use Rattle.xfs_mend.proofs.xfs_rename.RenamedSlots.{renamed_serve}
 use Rattle.xfs_settled.proofs.ObjectKinds.{objects_seal}
 use Rattle.xfs_settled.proofs.PlacedOnce.{placed_runs_one}
 

@@ -14,9 +14,9 @@ use Rattle.xfs_place.specs.Wanted.{kept_runs}
 use Rattle.xfs_place.specs.declared.placed.Placed.{Placed}
 use Rattle.xfs_place.specs.declared.wanted.RunAsk.{RunAsk}
 use Rattle.xfs_place.specs.declared.wanted.Wanted.{Wanted}
-use Rattle.xfs_rebuild.specs.Rebuilds.{AreNamesDue, Ground}
-use Rattle.xfs_rebuild.specs.declared.names_due.NamesDue.{NamesDue}
-use Rattle.xfs_rename.specs.Settled.{AreWanted}
+use Rattle.xfs_mend.specs.xfs_rebuild.Rebuilds.{AreNamesDue, Ground}
+use Rattle.xfs_mend.specs.xfs_rebuild.declared.names_due.NamesDue.{NamesDue}
+use Rattle.xfs_mend.specs.xfs_rename.Settled.{AreWanted}
 use Rattle.xfs_changes.specs.declared.lost_found.Lost.{Lost}
 
 pub names_one : (g : Geometry) (n : NamesDue) (l : Lost) (w x : WantedNames) → AreWanted g n l w → AreWanted g n l x → w ≡ x

@@ -21,13 +21,13 @@ use Rattle.xfs_names.specs.Having.{node_of}
 use Rattle.xfs_salvage.proofs.Ascending.{filtered}
 use Rattle.xfs_views.proofs.Members.{Member, any_member, map_member, member_any, member_map}
 use Rattle.xfs_scan.specs.declared.evidence.Evidence.{Evidence}
-use Rattle.xfs_rebuild.specs.Names as Names
-use Rattle.xfs_rebuild.specs.declared.names_due.NamesDue.{NamesDue}
-use Rattle.xfs_rename.specs.Lost.{no_inode}
+use Rattle.xfs_mend.specs.xfs_rebuild.Names as Names
+use Rattle.xfs_mend.specs.xfs_rebuild.declared.names_due.NamesDue.{NamesDue}
+use Rattle.xfs_mend.specs.xfs_rename.Lost.{no_inode}
 use Rattle.xfs_changes.specs.Nodes.{nodes_of_files}
-use Rattle.xfs_restored.specs.DueFiles.{new_core}
-use Rattle.xfs_rebuild.specs.Rebuilds.{Ground}
-use Rattle.xfs_restored.proofs.NamedFiles.{new_root, standing_root}
+use Rattle.xfs_mend.specs.xfs_restored.DueFiles.{new_core}
+use Rattle.xfs_mend.specs.xfs_rebuild.Rebuilds.{Ground}
+use Rattle.xfs_mend.proofs.xfs_restored.NamedFiles.{new_root, standing_root}
 use Rattle.xfs_settled.specs.Gathered.{IsGathered}
 use Rattle.xfs_settled.proofs.Numbers.{file_kept, fresh_there, kept_there, low_inode}
 use Rattle.xfs_settled.proofs.Stands.{file_stands, own_inode}

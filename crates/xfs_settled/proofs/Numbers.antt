@@ -24,32 +24,32 @@ use Rattle.xfs_names.specs.declared.place.LostPlace.{LostPlace}
 use Rattle.xfs_names.specs.declared.place.LostPlace.TheVariants as place
 use Rattle.xfs_place.specs.Pool.{is_taken}
 use Rattle.xfs_place.specs.declared.wanted.Wanted.{Wanted}
-use Rattle.xfs_requested.proofs.Roots.{root_kept}
+use Rattle.xfs_mend.proofs.xfs_requested.Roots.{root_kept}
 use Rattle.xfs_views.proofs.Members.{Member, any_member, filter_member, flat_member, map_member, member_any, member_flat, member_left, member_map, row_member}
 use Rattle.xfs_salvage.specs.Kept.{fresh_among, own_inodes, run_of_cluster}
 use Rattle.xfs_salvage.specs.declared.found.Salvaged.{Salvaged}
 use Rattle.xfs_space.specs.Owners.{file_runs}
 use Rattle.xfs_request.specs.Requests.{volume_wanted}
 use Rattle.xfs_request.specs.Slots.{wanted_slots}
-use Rattle.xfs_requested.proofs.Taken.{among_member}
+use Rattle.xfs_mend.proofs.xfs_requested.Taken.{among_member}
 use Rattle.xfs_scan.specs.declared.evidence.Evidence.{Evidence}
 use Rattle.xfs_volume.specs.declared.files.FileRec.{FileRec}
-use Rattle.xfs_rebuild.specs.Names.{due_files, linked_file, linked_files, made_files, new_file}
-use Rattle.xfs_rebuild.specs.Rebuilds.{Ground, IsFound}
-use Rattle.xfs_rebuild.specs.declared.names_due.NamesDue.{NamesDue}
-use Rattle.xfs_restored.proofs.InKept.{file_inode}
-use Rattle.xfs_restored.proofs.RootInodes.{root_has}
-use Rattle.xfs_restored.specs.DueFiles.{kept_inodes, new_core}
-use Rattle.xfs_rename.specs.Lost.{added_for, first_added, lost_due, new_for, no_inode, place_due}
+use Rattle.xfs_mend.specs.xfs_rebuild.Names.{due_files, linked_file, linked_files, made_files, new_file}
+use Rattle.xfs_mend.specs.xfs_rebuild.Rebuilds.{Ground, IsFound}
+use Rattle.xfs_mend.specs.xfs_rebuild.declared.names_due.NamesDue.{NamesDue}
+use Rattle.xfs_mend.proofs.xfs_restored.InKept.{file_inode}
+use Rattle.xfs_mend.proofs.xfs_restored.RootInodes.{root_has}
+use Rattle.xfs_mend.specs.xfs_restored.DueFiles.{kept_inodes, new_core}
+use Rattle.xfs_mend.specs.xfs_rename.Lost.{added_for, first_added, lost_due, new_for, no_inode, place_due}
 use Rattle.xfs_changes.specs.Nodes.{first_of_cluster, firsts_of_clusters, nodes_of_files}
 use Rattle.xfs_changes.specs.declared.lost_found.Lost.{Lost}
-use Rattle.xfs_restored.proofs.NewSlots.{added_made}
-use Rattle.xfs_restored.proofs.WantedApart.{cluster_low, inode_low, inodes_apart}
-use Rattle.xfs_restored.proofs.WantedLists.{mades_either, mades_have, mades_keep, none_used}
-use Rattle.xfs_restored.proofs.WantedPlace.{find_passes, slot_free}
-use Rattle.xfs_restored.proofs.WantedNumbers.{one_added, taken_all}
-use Rattle.xfs_restored.proofs.WantedSlots.{IsMadeFor, made_is, made_there}
-use Rattle.xfs_restored.specs.Changes.{LeavesRoom, inodes_taken}
+use Rattle.xfs_mend.proofs.xfs_restored.NewSlots.{added_made}
+use Rattle.xfs_mend.proofs.xfs_restored.WantedApart.{cluster_low, inode_low, inodes_apart}
+use Rattle.xfs_mend.proofs.xfs_restored.WantedLists.{mades_either, mades_have, mades_keep, none_used}
+use Rattle.xfs_mend.proofs.xfs_restored.WantedPlace.{find_passes, slot_free}
+use Rattle.xfs_mend.proofs.xfs_restored.WantedNumbers.{one_added, taken_all}
+use Rattle.xfs_mend.proofs.xfs_restored.WantedSlots.{IsMadeFor, made_is, made_there}
+use Rattle.xfs_mend.specs.xfs_restored.Changes.{LeavesRoom, inodes_taken}
 use Rattle.xfs_settled.specs.Gathered.{IsGathered}
 use Rattle.xfs_settled.proofs.Found as Found
 use Rattle.xfs_settled.proofs.FoundClusters.{IsFreeCluster, added_is, place_case}

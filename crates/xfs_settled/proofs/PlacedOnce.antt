@@ -22,7 +22,7 @@ use Rattle.xfs_empty.specs.Planning.{StandsFor}
 use Rattle.xfs_place.specs.declared.uses.Use.{Use}
 use Rattle.xfs_place.proofs.Ordered.{begun_all}
 use Rattle.xfs_place.proofs.Totals.{one_rank}
-use Rattle.xfs_made.proofs.Separate.{by_length_is, one_separate}
+use Rattle.xfs_mend.proofs.xfs_made.Separate.{by_length_is, one_separate}
 use Rattle.xfs_settled.proofs.OwnersOnce.{records_one}
 use Rattle.xfs_kinds.specs.Lengths.{by_length}
 

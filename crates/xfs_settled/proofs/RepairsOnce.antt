@@ -8,10 +8,10 @@ use Rattle.xfs_geom.specs.declared.geometry.Geometry.{Geometry}
 use Rattle.xfs_image.proofs.Consistent.{one_geometry}
 use Rattle.xfs_mend.specs.Outcome.{IsRebuilt}
 use Rattle.xfs_mend.specs.Rebuilding.{IsRenamingOf, IsRepairPlan, rebuild_writes}
-use Rattle.xfs_rebuild.specs.Rebuilds.{AreNamesDue, Ground, names_change}
-use Rattle.xfs_rebuild.specs.declared.planning.Rebuilt.{Rebuilt}
-use Rattle.xfs_restored.proofs.Sizes.{elected_fits}
-use Rattle.xfs_restored.specs.Rewriting.{IsRewritten}
+use Rattle.xfs_mend.specs.xfs_rebuild.Rebuilds.{AreNamesDue, Ground, names_change}
+use Rattle.xfs_mend.specs.xfs_rebuild.declared.planning.Rebuilt.{Rebuilt}
+use Rattle.xfs_mend.proofs.xfs_restored.Sizes.{elected_fits}
+use Rattle.xfs_mend.specs.xfs_restored.Rewriting.{IsRewritten}
 use Rattle.xfs_scan.specs.Evidence.{IsEvidence}
 use Rattle.xfs_scan.specs.declared.evidence.Evidence.{Evidence}
 use Rattle.xfs_writing.specs.Writing.{written}

@@ -14,9 +14,9 @@ use Rattle.xfs_salvage.specs.Kept.{run_of_cluster}
 use Rattle.xfs_scan.specs.declared.evidence.Evidence.{Evidence}
 use Rattle.xfs_space.specs.Owners.{attribute_flag, extent_run, file_runs, runs_of_blocks, tree_flag}
 use Rattle.xfs_volume.specs.declared.files.FileRec.{FileRec}
-use Rattle.xfs_rebuild.proofs.Known.{all_due, known_taken}
-use Rattle.xfs_rebuild.specs.Rebuilds.{Ground, slots_asked}
-use Rattle.xfs_rebuild.specs.declared.names_due.NamesDue.{NamesDue}
+use Rattle.xfs_mend.proofs.xfs_rebuild.Known.{all_due, known_taken}
+use Rattle.xfs_mend.specs.xfs_rebuild.Rebuilds.{Ground, slots_asked}
+use Rattle.xfs_mend.specs.xfs_rebuild.declared.names_due.NamesDue.{NamesDue}
 use Rattle.xfs_settled.specs.Gathered.{IsGathered, LiesInside}
 use Rattle.xfs_settled.proofs.Found.{names_due}
 use Rattle.xfs_settled.proofs.Numbers.{taken_is}

@@ -4,7 +4,7 @@ use Rattle.std.proofs.lemmas.Bool.{false≢true}
 use Rattle.xfs_disk.specs.Blocks.{Image, IsImage}
 use Rattle.xfs_disk.specs.declared.stamp.Stamp.{Stamp}
 use Rattle.xfs_geom.specs.declared.geometry.Geometry.{Geometry}
-use Rattle.xfs_rebuild.specs.Rebuilds.{Ground, names_change}
+use Rattle.xfs_mend.specs.xfs_rebuild.Rebuilds.{Ground, names_change}
 use Rattle.xfs_settled.specs.Rewrites.{IsNamedRewrite, IsPlainRewrite, IsRewriteOf}
 use Rattle.xfs_settled.proofs.Grounding.{ground_one}
 use Rattle.xfs_settled.proofs.ImagesJoined.{rebuilds_one}

@@ -18,13 +18,13 @@ use Rattle.xfs_place.specs.Wanted.{kept_runs}
 use Rattle.xfs_place.specs.declared.placed.Placed.{Placed}
 use Rattle.xfs_place.specs.declared.wanted.Object.{Object}
 use Rattle.xfs_place.specs.declared.wanted.RunAsk.{RunAsk}
-use Rattle.xfs_rebuild.specs.declared.names_due.NamesDue.{NamesDue}
+use Rattle.xfs_mend.specs.xfs_rebuild.declared.names_due.NamesDue.{NamesDue}
 use Rattle.xfs_built.specs.Asks.{asks_for, object_of, objects_of, stands_in_blocks}
-use Rattle.xfs_rename.specs.Objects.{wanted_with}
-use Rattle.xfs_rename.specs.Renames.{AreBuilt, renamed_wanted}
+use Rattle.xfs_mend.specs.xfs_rename.Objects.{wanted_with}
+use Rattle.xfs_mend.specs.xfs_rename.Renames.{AreBuilt, renamed_wanted}
 use Rattle.xfs_changes.specs.Rooms.{fork_rooms}
 use Rattle.xfs_built.proofs.Fronts.{all_append, front_is}
-use Rattle.xfs_restored.proofs.Planned.{all_of_both}
+use Rattle.xfs_mend.proofs.xfs_restored.Planned.{all_of_both}
 use Rattle.xfs_built.proofs.Sized.{built_sized}
 use Rattle.xfs_built.proofs.Standing.{asks_plain}
 use Rattle.xfs_built.specs.Directories.{HasOwnCounts, asks_of_built, runs_of_built}

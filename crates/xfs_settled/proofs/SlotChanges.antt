@@ -33,31 +33,31 @@ use Rattle.xfs_render.specs.declared.wanted_slots.SlotBase.{SlotBase}
 use Rattle.xfs_render.specs.declared.wanted_slots.SlotBase.TheVariants as Base
 use Rattle.xfs_render.specs.declared.wanted_slots.SlotWanted.{SlotWanted}
 use Rattle.xfs_request.specs.Fresh.{new_root_core, new_root_slot, new_slot, new_system_core, new_system_slot}
-use Rattle.xfs_requested.proofs.Makeable.{slots_can}
+use Rattle.xfs_mend.proofs.xfs_requested.Makeable.{slots_can}
 use Rattle.xfs_scan.specs.declared.evidence.Evidence.{Evidence}
 use Rattle.xfs_volume.specs.declared.files.FileRec.{FileRec}
-use Rattle.xfs_rebuild.specs.Changes.{CanChange, can_fork, can_make, is_whole_slot}
-use Rattle.xfs_rebuild.specs.Names.{linked_file}
-use Rattle.xfs_rebuild.specs.Rebuilds.{Ground}
-use Rattle.xfs_rebuild.specs.declared.names_due.NamesDue.{NamesDue}
-use Rattle.xfs_restored.proofs.Wanted.{wanted_is}
-use Rattle.xfs_restored.specs.DueFiles.{new_core}
-use Rattle.xfs_rename.specs.Lost.{lost_due}
+use Rattle.xfs_mend.specs.xfs_rebuild.Changes.{CanChange, can_fork, can_make, is_whole_slot}
+use Rattle.xfs_mend.specs.xfs_rebuild.Names.{linked_file}
+use Rattle.xfs_mend.specs.xfs_rebuild.Rebuilds.{Ground}
+use Rattle.xfs_mend.specs.xfs_rebuild.declared.names_due.NamesDue.{NamesDue}
+use Rattle.xfs_mend.proofs.xfs_restored.Wanted.{wanted_is}
+use Rattle.xfs_mend.specs.xfs_restored.DueFiles.{new_core}
+use Rattle.xfs_mend.specs.xfs_rename.Lost.{lost_due}
 use Rattle.xfs_changes.specs.Nodes.{firsts_of_clusters, nodes_of_files}
-use Rattle.xfs_rename.specs.Renames.{AreBuilt, old_files, placed_forks, renamed_slots, renamed_wanted}
+use Rattle.xfs_mend.specs.xfs_rename.Renames.{AreBuilt, old_files, placed_forks, renamed_slots, renamed_wanted}
 use Rattle.xfs_changes.specs.Rooms.{fork_rooms}
 use Rattle.xfs_changes.specs.Slots.{base_made, change_listed, change_of, changes_of, changes_something, fork_at, free_change, free_changes, links_held_at, links_set, lost_core}
 use Rattle.xfs_changes.specs.declared.changes.SlotChange.{SlotChange}
 use Rattle.xfs_changes.specs.declared.forks.DirectoryFork.{DirectoryFork}
 use Rattle.xfs_changes.specs.declared.lost_found.Lost.{Lost}
-use Rattle.xfs_restored.proofs.BuiltRooms.{whole_room}
-use Rattle.xfs_restored.proofs.Changing.{changes_wanted}
-use Rattle.xfs_restored.proofs.Links.{changes_ascend}
-use Rattle.xfs_restored.proofs.NewSlots.{added_few}
-use Rattle.xfs_restored.proofs.ShortRoom.{fork_room_is}
-use Rattle.xfs_restored.proofs.WantedPlace.{directory_either, made_adds}
-use Rattle.xfs_restored.proofs.WantedSlots.{fresh_slot}
-use Rattle.xfs_restored.specs.Changes.{first_change, with_change}
+use Rattle.xfs_mend.proofs.xfs_restored.BuiltRooms.{whole_room}
+use Rattle.xfs_mend.proofs.xfs_restored.Changing.{changes_wanted}
+use Rattle.xfs_mend.proofs.xfs_restored.Links.{changes_ascend}
+use Rattle.xfs_mend.proofs.xfs_restored.NewSlots.{added_few}
+use Rattle.xfs_mend.proofs.xfs_restored.ShortRoom.{fork_room_is}
+use Rattle.xfs_mend.proofs.xfs_restored.WantedPlace.{directory_either, made_adds}
+use Rattle.xfs_mend.proofs.xfs_restored.WantedSlots.{fresh_slot}
+use Rattle.xfs_mend.specs.xfs_restored.Changes.{first_change, with_change}
 use Rattle.xfs_settled.specs.Gathered.{IsGathered}
 use Rattle.xfs_settled.proofs.ForksFit.{fork_fits}
 use Rattle.xfs_settled.proofs.Found as Found

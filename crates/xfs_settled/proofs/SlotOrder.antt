@@ -9,29 +9,29 @@ use Rattle.xfs_geom.specs.declared.geometry.Geometry.{Geometry}
 use Rattle.xfs_image.specs.Slots.{cluster_inodes}
 use Rattle.xfs_naming.specs.Naming.{NumbersAscend}
 use Rattle.xfs_names.specs.declared.records.WantedNames.{WantedNames}
-use Rattle.xfs_requested.proofs.Inodes.{first_in}
+use Rattle.xfs_mend.proofs.xfs_requested.Inodes.{first_in}
 use Rattle.xfs_views.proofs.Members.{all_members}
 use Rattle.xfs_render.specs.declared.wanted_slots.SlotWanted.{SlotWanted}
 use Rattle.xfs_request.specs.Slots.{StandByNumber, slot_listed}
-use Rattle.xfs_requested.proofs.Spaced.{AreSpaced, inodes_up, kept_spaced}
+use Rattle.xfs_mend.proofs.xfs_requested.Spaced.{AreSpaced, inodes_up, kept_spaced}
 use Rattle.xfs_salvage.proofs.Ascending.{lower}
 use Rattle.xfs_scan.specs.declared.evidence.Evidence.{Evidence}
 use Rattle.xfs_volume.specs.declared.files.FileRec.{FileRec}
-use Rattle.xfs_rebuild.specs.Rebuilds.{Ground, IsFound}
-use Rattle.xfs_rebuild.specs.declared.names_due.NamesDue.{NamesDue}
-use Rattle.xfs_restored.proofs.Wanted.{listed}
-use Rattle.xfs_restored.specs.DueFiles.{kept_inodes}
-use Rattle.xfs_rename.specs.Lost.{lost_due}
-use Rattle.xfs_rename.specs.Renames.{old_files, renamed_slots}
-use Rattle.xfs_rename.specs.Settled.{AreWanted}
+use Rattle.xfs_mend.specs.xfs_rebuild.Rebuilds.{Ground, IsFound}
+use Rattle.xfs_mend.specs.xfs_rebuild.declared.names_due.NamesDue.{NamesDue}
+use Rattle.xfs_mend.proofs.xfs_restored.Wanted.{listed}
+use Rattle.xfs_mend.specs.xfs_restored.DueFiles.{kept_inodes}
+use Rattle.xfs_mend.specs.xfs_rename.Lost.{lost_due}
+use Rattle.xfs_mend.specs.xfs_rename.Renames.{old_files, renamed_slots}
+use Rattle.xfs_mend.specs.xfs_rename.Settled.{AreWanted}
 use Rattle.xfs_changes.specs.Slots.{changed, changed_alone, changes_of, put_first, slots_before, with_changes}
 use Rattle.xfs_changes.specs.declared.changes.SlotChange.{SlotChange}
 use Rattle.xfs_changes.specs.declared.forks.DirectoryFork.{DirectoryFork}
-use Rattle.xfs_restored.proofs.Links.{changes_ascend}
-use Rattle.xfs_restored.proofs.NewSlots.{added_few}
-use Rattle.xfs_restored.proofs.Room.{links_ascend}
-use Rattle.xfs_restored.proofs.WantedSlots.{slots_up}
-use Rattle.xfs_restored.specs.Changes.{ChangesAscend, LeavesRoom, LinksAscend, SlotsAscend}
+use Rattle.xfs_mend.proofs.xfs_restored.Links.{changes_ascend}
+use Rattle.xfs_mend.proofs.xfs_restored.NewSlots.{added_few}
+use Rattle.xfs_mend.proofs.xfs_restored.Room.{links_ascend}
+use Rattle.xfs_mend.proofs.xfs_restored.WantedSlots.{slots_up}
+use Rattle.xfs_mend.specs.xfs_restored.Changes.{ChangesAscend, LeavesRoom, LinksAscend, SlotsAscend}
 use Rattle.xfs_settled.specs.Gathered.{IsGathered}
 use Rattle.xfs_settled.proofs.Found as Found
 use Rattle.xfs_settled.proofs.Numbers.{file_clear}

@@ -14,8 +14,8 @@ use Rattle.xfs_views.specs.Standing.{stands}
 use Rattle.xfs_views.proofs.Members.{Member, filter_member, member_filter}
 use Rattle.xfs_scan.specs.declared.evidence.Evidence.{Evidence}
 use Rattle.xfs_salvage.specs.Kept.{claims_held, fresh_among, is_kept_file, kept_files, own_inodes}
-use Rattle.xfs_rebuild.specs.Rebuilds.{Ground}
-use Rattle.xfs_rebuild.specs.declared.names_due.NamesDue.{NamesDue}
+use Rattle.xfs_mend.specs.xfs_rebuild.Rebuilds.{Ground}
+use Rattle.xfs_mend.specs.xfs_rebuild.declared.names_due.NamesDue.{NamesDue}
 use Rattle.xfs_settled.specs.Gathered.{IsGathered}
 use Rattle.xfs_settled.proofs.Found as Found
 

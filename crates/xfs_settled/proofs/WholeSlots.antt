@@ -21,11 +21,11 @@ use Rattle.xfs_tree.specs.Reading.{Contents}
 use Rattle.xfs_views.proofs.FileTests.{core_says}
 use Rattle.xfs_volume.specs.declared.cores.Core.{Core}
 use Rattle.xfs_volume.specs.declared.files.FileRec.{FileRec}
-use Rattle.xfs_rebuild.specs.Changes.{is_whole_slot}
-use Rattle.xfs_rebuild.specs.Rebuilds.{Ground}
-use Rattle.xfs_rebuild.specs.declared.names_due.NamesDue.{NamesDue}
-use Rattle.xfs_restored.proofs.InKept.{kept_read}
-use Rattle.xfs_restored.proofs.Readings.{HasData, attrs_have, bare_is, file_has, stated}
+use Rattle.xfs_mend.specs.xfs_rebuild.Changes.{is_whole_slot}
+use Rattle.xfs_mend.specs.xfs_rebuild.Rebuilds.{Ground}
+use Rattle.xfs_mend.specs.xfs_rebuild.declared.names_due.NamesDue.{NamesDue}
+use Rattle.xfs_mend.proofs.xfs_restored.InKept.{kept_read}
+use Rattle.xfs_mend.proofs.xfs_restored.Readings.{HasData, attrs_have, bare_is, file_has, stated}
 use Rattle.xfs_settled.specs.Gathered.{IsGathered}
 use Rattle.xfs_settled.proofs.Found as Found
 

@@ -8,8 +8,8 @@ use Rattle.xfs_geom.specs.Volumes.{volume_of}
 use Rattle.xfs_geom.specs.declared.geometry.Geometry.{Geometry}
 use Rattle.xfs_scan.specs.Evidence.{IsEvidence}
 use Rattle.xfs_scan.specs.declared.evidence.Evidence.{Evidence}
-use Rattle.xfs_rebuild.specs.Rebuilds.{AreNamesDue, Ground, IsGround, names_change}
-use Rattle.xfs_rebuild.specs.declared.names_due.NamesDue.{NamesDue}
+use Rattle.xfs_mend.specs.xfs_rebuild.Rebuilds.{AreNamesDue, Ground, IsGround, names_change}
+use Rattle.xfs_mend.specs.xfs_rebuild.declared.names_due.NamesDue.{NamesDue}
 
 -- of the evidence of an image a rebuild has this to go by, a name has to change, and the names are those that are due
 pub record IsGathered (g : Geometry) (s : Stamp) (image : Image) (e : Evidence) (on : Ground) (n : NamesDue) : Type 0 where

@@ -3,12 +3,12 @@ use Rattle.std.specs.Prelude.{ℕ, ◌⊎◌, List}
 use Rattle.xfs_disk.specs.Blocks.{Image}
 use Rattle.xfs_disk.specs.declared.stamp.Stamp.{Stamp}
 use Rattle.xfs_geom.specs.declared.geometry.Geometry.{Geometry}
-use Rattle.xfs_rebuild.specs.Rebuilds.{IsRebuildOf}
-use Rattle.xfs_rebuild.specs.declared.names_due.NamesDue.{NamesDue}
-use Rattle.xfs_rebuild.specs.declared.planning.Rebuilt.{Rebuilt}
-use Rattle.xfs_rename.specs.declared.planning.Renamed.{Renamed}
-use Rattle.xfs_restored.specs.Relinking.{IsRelinked}
-use Rattle.xfs_restored.specs.Rewriting.{IsRewritten}
+use Rattle.xfs_mend.specs.xfs_rebuild.Rebuilds.{IsRebuildOf}
+use Rattle.xfs_mend.specs.xfs_rebuild.declared.names_due.NamesDue.{NamesDue}
+use Rattle.xfs_mend.specs.xfs_rebuild.declared.planning.Rebuilt.{Rebuilt}
+use Rattle.xfs_mend.specs.xfs_rename.declared.planning.Renamed.{Renamed}
+use Rattle.xfs_mend.specs.xfs_restored.Relinking.{IsRelinked}
+use Rattle.xfs_mend.specs.xfs_restored.Rewriting.{IsRewritten}
 use Rattle.xfs_scan.specs.Evidence.{IsEvidence}
 use Rattle.xfs_scan.specs.declared.evidence.Evidence.{Evidence}
 

@@ -7,8 +7,8 @@ use Rattle.xfs_word.specs.declared.extents.Extent.{Extent}
 use Rattle.xfs_geom.specs.Groups.{group_of_address, ag_block_of_address}
 use Rattle.xfs_geom.specs.Conversions.{group_length}
 use Rattle.xfs_geom.specs.Volumes.{Volume}
-use Rattle.xfs_tree.specs.Shape.{Shape}
-use Rattle.xfs_tree.specs.Rules.{are_lawful}
+use Rattle.xfs_kinds.specs.xfs_tree.Shape.{Shape}
+use Rattle.xfs_kinds.specs.xfs_tree.Rules.{are_lawful}
 use Rattle.xfs_kinds.specs.FileTrees.{bmbt_shape, is_extent, fits_extent, follows_offset}
 use Rattle.xfs_space.specs.Private.Places.{IsPlacedExtent}
 

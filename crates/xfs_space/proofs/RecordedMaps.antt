@@ -11,7 +11,7 @@ use Rattle.xfs_geom.specs.declared.records.Run.{Run}
 use Rattle.xfs_kinds.specs.Groups.{lies_in_group}
 use Rattle.xfs_kinds.specs.OffsetWords.{offset_in_fork}
 use Rattle.xfs_kinds.specs.OwnerTrees.{fits_owner, follows_end, is_owned_run, is_owner, rmap_shape}
-use Rattle.xfs_tree.specs.Rules.{are_lawful}
+use Rattle.xfs_kinds.specs.xfs_tree.Rules.{are_lawful}
 use Rattle.xfs_volume.specs.declared.groups.GroupRec.{GroupRec}
 use Rattle.xfs_space.specs.Maps.{AreMapped, IsMapped}
 use Rattle.xfs_space.specs.SpaceLaws.{recorded_run, recorded_runs}

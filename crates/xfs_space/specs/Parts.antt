@@ -2,8 +2,8 @@
 use Rattle.std.specs.Prelude.{ℕ, ◌+◌, ◌/◌, ◌≡◌, ◌≤◌, ◌<◌, List, [], ◌∷◌, length, None, IsTrue}
 use Rattle.std.specs.List.{All}
 use Rattle.xfs_geom.specs.Volumes.{Volume}
-use Rattle.xfs_heads.specs.FreeList.{has_blocks}
-use Rattle.xfs_tree.specs.Rules.{are_lawful}
+use Rattle.xfs_volume.specs.xfs_heads.FreeList.{has_blocks}
+use Rattle.xfs_kinds.specs.xfs_tree.Rules.{are_lawful}
 use Rattle.xfs_kinds.specs.FreeTrees.{bno_shape, cnt_shape}
 use Rattle.xfs_kinds.specs.InodeTrees.{ino_shape, fino_shape}
 use Rattle.xfs_kinds.specs.OwnerTrees.{rmap_shape}

@@ -13,8 +13,8 @@ use Rattle.xfs_tree.specs.Rules.{are_lawful}
 use Rattle.xfs_kinds.specs.Groups.{lies_in_group}
 use Rattle.xfs_kinds.specs.InodeTrees.{ascends_inode, fits_chunk, has_count, ino_shape, is_chunk, is_chunk_clear, is_first_inode, is_holemask, is_missing}
 use Rattle.xfs_volume.specs.declared.groups.GroupRec.{GroupRec}
-use Rattle.xfs_space.specs.Owners.{cluster_run, cluster_runs, clusters_of_chunk, group_runs, groups_runs, listed_runs, new_run, tree_owners, tree_runs}
-use Rattle.xfs_space.specs.Parts.{AreGroups}
+use Rattle.xfs_laws.specs.xfs_space.Owners.{cluster_run, cluster_runs, clusters_of_chunk, group_runs, groups_runs, listed_runs, new_run, tree_owners, tree_runs}
+use Rattle.xfs_laws.specs.xfs_space.Parts.{AreGroups}
 use Rattle.xfs_image.specs.Claims.{is_of_cluster}
 use Rattle.xfs_image.specs.Clusters.{chunk_clusters, clusters_in}
 use Rattle.xfs_image.specs.Files.{clusters_from}

@@ -10,7 +10,7 @@ use Rattle.xfs_geom.specs.declared.records.Run.{Run}
 use Rattle.xfs_collections.specs.Blocks.{is_in}
 use Rattle.xfs_inode.specs.Files.{range_of, range_of_block}
 use Rattle.xfs_volume.specs.declared.files.FileRec.{FileRec}
-use Rattle.xfs_space.specs.Owners.{attribute_flag, runs_of_blocks, extent_run, file_runs, tree_flag}
+use Rattle.xfs_laws.specs.xfs_space.Owners.{attribute_flag, runs_of_blocks, extent_run, file_runs, tree_flag}
 use Rattle.xfs_claims.specs.Spans.{spans_of}
 use Rattle.xfs_image.specs.Claims.{candidate_files, claims, lies_in}
 use Rattle.xfs_image.specs.Claims as Image_claims

@@ -4,7 +4,7 @@ use Rattle.std.specs.List.{flat_map, list_any}
 use Rattle.std.proofs.lemmas.List.Sums.{sum_by-append}
 use Rattle.xfs_geom.specs.Runs.{covers, runs_on}
 use Rattle.xfs_geom.specs.declared.records.Run.{Run}
-use Rattle.xfs_space.proofs.Shared.{on-cons}
+use Rattle.xfs_laws.proofs.xfs_space.Shared.{on-cons}
 use Rattle.xfs_views.proofs.Members.{Member, any_member}
 
 pub on_both : (xs ys : List Run) (b : ℕ) → runs_on (xs ++ ys) b ≡ runs_on xs b + runs_on ys b

@@ -30,7 +30,7 @@ use Rattle.xfs_inode.specs.declared.files.FileRead.{FileRead}
 use Rattle.xfs_inode.specs.declared.files.FileRead.TheVariants as Reads
 use Rattle.xfs_inode.specs.declared.reading.SlotRead.{SlotRead}
 use Rattle.xfs_inode.specs.declared.reading.SlotRead.TheVariants as Read
-use Rattle.xfs_space.specs.Parts.{HasLawfulForks}
+use Rattle.xfs_laws.specs.xfs_space.Parts.{HasLawfulForks}
 use Rattle.xfs_image.specs.Files.{AreFilesRead}
 use Rattle.xfs_image.specs.Slots.{reads_as, slot_bytes}
 

@@ -16,7 +16,7 @@ use Rattle.xfs_kinds.specs.InodeTrees.{ino_shape, fino_shape}
 use Rattle.xfs_kinds.specs.OwnerTrees.{rmap_shape}
 use Rattle.xfs_volume.specs.declared.groups.GroupRec.{GroupRec}
 use Rattle.xfs_volume.specs.declared.groups.TreeBlocks.{TreeBlocks}
-use Rattle.xfs_space.specs.Parts.{AreGroups, AreOfGroup, IsLawfulGroup}
+use Rattle.xfs_laws.specs.xfs_space.Parts.{AreGroups, AreOfGroup, IsLawfulGroup}
 use Rattle.xfs_image.specs.GroupParts.{AreGroupsRead, IsGroupRead, blocks_only, tree}
 use Rattle.xfs_image.specs.Groups.{contents, head_block, tree_at}
 use Rattle.xfs_log.specs.Sectors.{sector_in}

@@ -10,11 +10,11 @@ use Rattle.xfs_geom.specs.declared.geometry.Geometry.{Geometry}
 use Rattle.xfs_geom.specs.declared.records.Run.{Run}
 use Rattle.xfs_kinds.specs.MergedRuns.{held_at, offset_word_at}
 use Rattle.xfs_volume.specs.declared.groups.GroupRec.{GroupRec}
-use Rattle.xfs_space.specs.Parts.{AreGroups, IsLawfulGroup}
-use Rattle.xfs_space.specs.SpaceLaws.{recorded_run, recorded_runs}
-use Rattle.xfs_space.proofs.RecordedMaps.{ends_by, group_inside, mapped_group, starts_from}
-use Rattle.xfs_space.proofs.Shared.{follow_once, on-cons}
-use Rattle.xfs_space.proofs.Splits.{EndsBy, StartsFrom, none_on_back, none_on_front}
+use Rattle.xfs_laws.specs.xfs_space.Parts.{AreGroups, IsLawfulGroup}
+use Rattle.xfs_laws.specs.xfs_space.SpaceLaws.{recorded_run, recorded_runs}
+use Rattle.xfs_laws.proofs.xfs_space.RecordedMaps.{ends_by, group_inside, mapped_group, starts_from}
+use Rattle.xfs_laws.proofs.xfs_space.Shared.{follow_once, on-cons}
+use Rattle.xfs_laws.proofs.xfs_space.Splits.{EndsBy, StartsFrom, none_on_back, none_on_front}
 use Rattle.xfs_image.specs.Clusters.{chunk_clusters}
 use Rattle.xfs_image.specs.Files.{clusters_from}
 use Rattle.xfs_image.specs.GroupParts.{AreGroupsRead, IsGroupRead}

@@ -14,7 +14,7 @@ use Rattle.xfs_inode.specs.declared.files.FileRead.{FileRead}
 use Rattle.xfs_inode.specs.declared.files.FileRead.TheVariants as Reads
 use Rattle.xfs_volume.specs.declared.clusters.ClusterRec.{ClusterRec}
 use Rattle.xfs_volume.specs.declared.files.FileRec.{FileRec}
-use Rattle.xfs_space.proofs.FreeSpans.{group_short}
+use Rattle.xfs_laws.proofs.xfs_space.FreeSpans.{group_short}
 use Rattle.xfs_claims.specs.Keeping.{kept_of}
 use Rattle.xfs_claims.specs.Ranks as Ranks
 use Rattle.xfs_claims.specs.Spans.{spans_of}

@@ -48,3 +48,5 @@ pub mod SlotsStay
 pub mod PlacesStay
 pub mod ViewsStay
 pub mod ProtectedStay
+pub use Rattle.xfs_laws.proofs.xfs_space as xfs_space
+pub use Rattle.xfs_laws.proofs as xfs_laws

@@ -22,7 +22,7 @@ use Rattle.xfs_volume.specs.declared.catalogs.BlockLsn.{BlockLsn}
 use Rattle.xfs_volume.specs.declared.files.FileRec.{FileRec}
 use Rattle.xfs_volume.specs.declared.groups.GroupRec.{GroupRec}
 use Rattle.xfs_volume.specs.declared.groups.TreeBlocks.{TreeBlocks}
-use Rattle.xfs_space.specs.Parts.{AreGroups, AreOfGroup, HasLawfulForks}
+use Rattle.xfs_laws.specs.xfs_space.Parts.{AreGroups, AreOfGroup, HasLawfulForks}
 use Rattle.xfs_image.proofs.Places.{all_moved}
 use Rattle.xfs_image.specs.Clusters.{chunk_clusters, clusters_in}
 use Rattle.xfs_image.specs.Files.{clusters_from, clusters_of}

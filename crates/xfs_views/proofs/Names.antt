@@ -15,7 +15,7 @@ use Rattle.xfs_dirindex.specs.Mapped.{is_data}
 use Rattle.xfs_volume.specs.Names.{is_directory}
 use Rattle.xfs_volume.specs.declared.directories.DirRec.{DirRec}
 use Rattle.xfs_volume.specs.declared.files.FileRec.{FileRec}
-use Rattle.xfs_naming.specs.Naming.{AreGrouped}
+use Rattle.xfs_laws.specs.xfs_naming.Naming.{AreGrouped}
 use Rattle.xfs_image.specs.Directories.{FileBlock, data_blocks, dir_of, directories, dirs_read, entries_in_block, entries_of, entries_of_area, entries_of_form, entries_read, is_beside_dots, is_sealed_as, is_short, is_single_form, short_form}
 use Rattle.xfs_image.specs.Slots.{slot_bytes}
 

@@ -15,8 +15,8 @@ use Rattle.xfs_kinds.specs.Groups.{lies_in_group}
 use Rattle.xfs_kinds.specs.InodeTrees.{ascends_inode, fits_chunk, has_count, ino_shape, is_chunk, is_chunk_clear, is_first_inode, is_missing}
 use Rattle.xfs_volume.specs.declared.files.FileRec.{FileRec}
 use Rattle.xfs_volume.specs.declared.groups.GroupRec.{GroupRec}
-use Rattle.xfs_space.specs.Parts.{AreGroups}
-use Rattle.xfs_naming.specs.Naming.{NumbersAscend, numbers_of}
+use Rattle.xfs_laws.specs.xfs_space.Parts.{AreGroups}
+use Rattle.xfs_laws.specs.xfs_naming.Naming.{NumbersAscend, numbers_of}
 use Rattle.xfs_image.specs.Clusters.{clusters_in}
 use Rattle.xfs_image.specs.Files.{AreFilesRead, clusters_from, clusters_of, inodes_of}
 use Rattle.xfs_image.specs.Groups.{head_block}

@@ -9,14 +9,14 @@ use Rattle.xfs_volume.specs.Laws.{first_broken}
 use Rattle.xfs_volume.specs.declared.catalogs.Catalog.{Catalog}
 use Rattle.xfs_volume.specs.declared.files.FileRec.{FileRec}
 use Rattle.xfs_volume.specs.declared.groups.GroupRec.{GroupRec}
-use Rattle.xfs_space.specs.Owners.{owned_runs}
-use Rattle.xfs_space.specs.Sorted.{IsOwned}
-use Rattle.xfs_space.specs.SpaceLaws.{free_laws, owner_laws, recorded_runs, sharing_laws, space_laws}
-use Rattle.xfs_space.proofs.GoodRuns.{good_all, owned_of}
-use Rattle.xfs_space.proofs.Moved.{kept_once}
-use Rattle.xfs_space.proofs.Shared.{none_outside}
-use Rattle.xfs_naming.specs.Naming.{naming_laws}
-use Rattle.xfs_naming.proofs.Kept.{kept_front}
+use Rattle.xfs_laws.specs.xfs_space.Owners.{owned_runs}
+use Rattle.xfs_laws.specs.xfs_space.Sorted.{IsOwned}
+use Rattle.xfs_laws.specs.xfs_space.SpaceLaws.{free_laws, owner_laws, recorded_runs, sharing_laws, space_laws}
+use Rattle.xfs_laws.proofs.xfs_space.GoodRuns.{good_all, owned_of}
+use Rattle.xfs_laws.proofs.xfs_space.Moved.{kept_once}
+use Rattle.xfs_laws.proofs.xfs_space.Shared.{none_outside}
+use Rattle.xfs_laws.specs.xfs_naming.Naming.{naming_laws}
+use Rattle.xfs_laws.proofs.xfs_naming.Kept.{kept_front}
 use Rattle.xfs_laws.specs.Counting.{log_laws}
 use Rattle.xfs_laws.specs.Lawful.{IsCatalog, broken_law, counting_laws}
 use Rattle.xfs_image.specs.Files.{AreFilesRead, inodes_of}

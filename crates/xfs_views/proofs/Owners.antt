@@ -16,11 +16,11 @@ use Rattle.xfs_volume.specs.Laws.{first_broken}
 use Rattle.xfs_volume.specs.declared.files.FileRec.{FileRec}
 use Rattle.xfs_volume.specs.declared.groups.GroupRec.{GroupRec}
 use Rattle.xfs_volume.specs.declared.groups.TreeBlocks.{TreeBlocks}
-use Rattle.xfs_space.specs.Owners.{runs_of_blocks, cluster_run, cluster_runs, clusters_of_chunk, different, file_runs, extent_run, group_runs, groups_runs, listed_run, listed_runs, owned_runs, new_run, tree_owners, tree_runs}
-use Rattle.xfs_space.specs.Parts.{AreGroups}
-use Rattle.xfs_space.specs.Sorted.{IsOwned}
-use Rattle.xfs_space.specs.SpaceLaws.{owner_at, owner_laws, owner_number}
-use Rattle.xfs_space.proofs.Broken.{each_kept}
+use Rattle.xfs_laws.specs.xfs_space.Owners.{runs_of_blocks, cluster_run, cluster_runs, clusters_of_chunk, different, file_runs, extent_run, group_runs, groups_runs, listed_run, listed_runs, owned_runs, new_run, tree_owners, tree_runs}
+use Rattle.xfs_laws.specs.xfs_space.Parts.{AreGroups}
+use Rattle.xfs_laws.specs.xfs_space.Sorted.{IsOwned}
+use Rattle.xfs_laws.specs.xfs_space.SpaceLaws.{owner_at, owner_laws, owner_number}
+use Rattle.xfs_laws.proofs.xfs_space.Broken.{each_kept}
 use Rattle.xfs_image.specs.Claims.{is_of_cluster}
 use Rattle.xfs_image.specs.Clusters.{chunk_clusters}
 use Rattle.xfs_image.specs.Files.{clusters_from}

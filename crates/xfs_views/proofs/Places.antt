@@ -16,9 +16,9 @@ use Rattle.xfs_kinds.specs.InodeTrees.{ascends_inode, ino_shape, is_chunk, is_mi
 use Rattle.xfs_inode.specs.declared.files.FileRead.TheVariants as Reads
 use Rattle.xfs_volume.specs.declared.files.FileRec.{FileRec}
 use Rattle.xfs_volume.specs.declared.groups.GroupRec.{GroupRec}
-use Rattle.xfs_space.specs.Parts.{AreGroups}
-use Rattle.xfs_space.proofs.FreeSpans.{group_short}
-use Rattle.xfs_space.proofs.RecordedMaps.{group_inside}
+use Rattle.xfs_laws.specs.xfs_space.Parts.{AreGroups}
+use Rattle.xfs_laws.proofs.xfs_space.FreeSpans.{group_short}
+use Rattle.xfs_laws.proofs.xfs_space.RecordedMaps.{group_inside}
 use Rattle.xfs_image.specs.Candidates.{lies_in_chunk}
 use Rattle.xfs_image.specs.Clusters.{chunk_clusters, clusters_in}
 use Rattle.xfs_image.specs.Files.{AreFilesRead, clusters_from, clusters_of, inodes_of}

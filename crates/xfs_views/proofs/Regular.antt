@@ -13,7 +13,7 @@ use Rattle.xfs_volume.specs.declared.catalogs.Catalog.{Catalog}
 use Rattle.xfs_volume.specs.declared.clusters.ClusterRec.{ClusterRec}
 use Rattle.xfs_volume.specs.declared.files.FileRec.{FileRec}
 use Rattle.xfs_volume.specs.declared.groups.GroupRec.{GroupRec}
-use Rattle.xfs_space.proofs.RecordedMaps.{group_inside}
+use Rattle.xfs_laws.proofs.xfs_space.RecordedMaps.{group_inside}
 use Rattle.xfs_laws.specs.Lawful.{broken_law}
 use Rattle.xfs_image.specs.Candidates.{can_hold_inodes, candidates, cluster_rec, is_candidate, is_scanned, has_whole_seal, lies_in_chunk}
 use Rattle.xfs_image.specs.Claims.{candidate_files, candidate_inodes, claims, file_if, is_candidate_inode, is_claimed, is_claimed_beside, is_of_candidate, is_of_cluster}

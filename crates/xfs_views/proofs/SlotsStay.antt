@@ -8,7 +8,7 @@ use Rattle.xfs_geom.specs.Conversions.{address_of, block_at, inode_of, slot_at, 
 use Rattle.xfs_geom.specs.Volumes.{Volume, volume_of}
 use Rattle.xfs_geom.specs.declared.geometry.Geometry.{Geometry}
 use Rattle.xfs_geom.proofs.Addresses.{block_back}
-use Rattle.xfs_space.proofs.RecordedMaps.{group_inside}
+use Rattle.xfs_laws.proofs.xfs_space.RecordedMaps.{group_inside}
 use Rattle.xfs_volume.specs.declared.files.FileRec.{FileRec}
 use Rattle.xfs_volume.specs.declared.groups.GroupRec.{GroupRec}
 use Rattle.xfs_image.specs.Claims.{is_of_cluster}

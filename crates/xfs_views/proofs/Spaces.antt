@@ -12,9 +12,9 @@ use Rattle.xfs_geom.specs.declared.geometry.Geometry.{Geometry}
 use Rattle.xfs_geom.specs.declared.records.Run.{Run}
 use Rattle.xfs_volume.specs.declared.files.FileRec.{FileRec}
 use Rattle.xfs_volume.specs.declared.groups.GroupRec.{GroupRec}
-use Rattle.xfs_space.specs.Owners.{file_runs, groups_runs, owned_runs, new_run}
-use Rattle.xfs_space.specs.Parts.{AreGroups}
-use Rattle.xfs_space.proofs.Shared.{on-cons}
+use Rattle.xfs_laws.specs.xfs_space.Owners.{file_runs, groups_runs, owned_runs, new_run}
+use Rattle.xfs_laws.specs.xfs_space.Parts.{AreGroups}
+use Rattle.xfs_laws.proofs.xfs_space.Shared.{on-cons}
 use Rattle.xfs_image.specs.Claims.{claims, is_of_cluster}
 use Rattle.xfs_image.specs.Files.{clusters_from}
 use Rattle.xfs_views.proofs.Chunks.{cluster_on, header_cluster, header_on}

@@ -6,7 +6,7 @@ use Rattle.xfs_geom.specs.Volumes.{Volume}
 use Rattle.xfs_inode.specs.declared.files.FileRead.TheVariants as Reads
 use Rattle.xfs_volume.specs.Names.{is_directory}
 use Rattle.xfs_volume.specs.declared.files.FileRec.{FileRec}
-use Rattle.xfs_naming.specs.Naming.{is_empty_regular}
+use Rattle.xfs_laws.specs.xfs_naming.Naming.{is_empty_regular}
 use Rattle.xfs_image.specs.Claims.{AreDisjointSets, claims}
 use Rattle.xfs_image.specs.Directories.{directories}
 use Rattle.xfs_image.specs.Keeping.{Protected}

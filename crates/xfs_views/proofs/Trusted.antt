@@ -15,11 +15,11 @@ use Rattle.xfs_geom.specs.declared.records.Run.{Run}
 use Rattle.xfs_kinds.specs.MergedRuns.{held_at, offset_word_at}
 use Rattle.xfs_volume.specs.declared.files.FileRec.{FileRec}
 use Rattle.xfs_volume.specs.declared.groups.GroupRec.{GroupRec}
-use Rattle.xfs_space.specs.Owners.{cluster_run, cluster_runs, clusters_of_chunk, file_runs, group_runs, groups_runs, listed_runs, owned_runs, new_run, tree_owners, tree_runs}
-use Rattle.xfs_space.specs.Parts.{AreGroups}
-use Rattle.xfs_space.specs.SpaceLaws.{owner_number, recorded_run, recorded_runs}
-use Rattle.xfs_space.proofs.FreeSpans.{group_short}
-use Rattle.xfs_space.proofs.RecordedMaps.{IsRecorded, all_recorded, group_inside}
+use Rattle.xfs_laws.specs.xfs_space.Owners.{cluster_run, cluster_runs, clusters_of_chunk, file_runs, group_runs, groups_runs, listed_runs, owned_runs, new_run, tree_owners, tree_runs}
+use Rattle.xfs_laws.specs.xfs_space.Parts.{AreGroups}
+use Rattle.xfs_laws.specs.xfs_space.SpaceLaws.{owner_number, recorded_run, recorded_runs}
+use Rattle.xfs_laws.proofs.xfs_space.FreeSpans.{group_short}
+use Rattle.xfs_laws.proofs.xfs_space.RecordedMaps.{IsRecorded, all_recorded, group_inside}
 use Rattle.xfs_image.specs.Claims.{is_of_cluster}
 use Rattle.xfs_image.specs.Clusters.{chunk_clusters, given_clusters, gives_block, is_given_block, places_in}
 use Rattle.xfs_image.specs.Files.{clusters_from}

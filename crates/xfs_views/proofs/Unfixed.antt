@@ -16,7 +16,7 @@ use Rattle.xfs_tree.specs.declared.layout.Layout.{Layout}
 use Rattle.xfs_kinds.specs.FreeTrees.{bno_shape, cnt_shape}
 use Rattle.xfs_kinds.specs.InodeTrees.{ino_shape, fino_shape}
 use Rattle.xfs_kinds.specs.OwnerTrees.{rmap_shape}
-use Rattle.xfs_space.proofs.FreeSpans.{group_short}
+use Rattle.xfs_laws.proofs.xfs_space.FreeSpans.{group_short}
 use Rattle.xfs_volume.specs.declared.groups.GroupRec.{GroupRec}
 use Rattle.xfs_volume.specs.declared.groups.TreeBlocks.{TreeBlocks}
 use Rattle.xfs_image.specs.GroupParts.{AreGroupsRead, IsGroupRead, tree}

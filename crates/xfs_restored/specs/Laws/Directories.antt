@@ -19,14 +19,14 @@ use Rattle.xfs_place.specs.declared.placed.Placed.{Placed}
 use Rattle.xfs_render.specs.Objects.{HasObjects, asks_with_kind, blocks_of_asks}
 use Rattle.xfs_render.specs.Plans.{HoldsPlan}
 use Rattle.xfs_render.specs.declared.bytes.Bytes.{Bytes}
-use Rattle.xfs_empty.specs.Planning.{StandsFor}
-use Rattle.xfs_rebuild.specs.declared.names_due.NamesDue.{NamesDue}
-use Rattle.xfs_changes.specs.Forks.{forks_of}
-use Rattle.xfs_built.specs.Asks.{blocks_of_built, objects_of, stands_in_blocks}
+use Rattle.xfs_rename.specs.xfs_empty.Planning.{StandsFor}
+use Rattle.xfs_rename.specs.xfs_rebuild.declared.names_due.NamesDue.{NamesDue}
+use Rattle.xfs_rename.specs.xfs_changes.Forks.{forks_of}
+use Rattle.xfs_rename.specs.xfs_built.Asks.{blocks_of_built, objects_of, stands_in_blocks}
 use Rattle.xfs_rename.specs.Renames.{IsRenamed, renamed_wanted}
-use Rattle.xfs_changes.specs.Rooms.{fork_rooms}
+use Rattle.xfs_rename.specs.xfs_changes.Rooms.{fork_rooms}
 use Rattle.xfs_rename.specs.declared.planning.Renamed.{Renamed}
-use Rattle.xfs_built.specs.Directories.{BuiltRuns, HasOwnCounts, StandsInRuns, ReadsSo, with_runs}
+use Rattle.xfs_rename.specs.xfs_built.Directories.{BuiltRuns, HasOwnCounts, StandsInRuns, ReadsSo, with_runs}
 use Rattle.xfs_restored.specs.RunForks.{FindsFork}
 use Rattle.xfs_restored.specs.Reading.{HasFileExtents}
 use Rattle.xfs_restored.specs.Renamed.{HoldsBuilt}

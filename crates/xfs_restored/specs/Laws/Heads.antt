@@ -7,12 +7,12 @@ use Rattle.xfs_geom.specs.declared.geometry.Geometry.{Geometry}
 use Rattle.xfs_image.specs.Consistent.{IsElected, backup_agrees}
 use Rattle.xfs_image.specs.Groups.{groups_read}
 use Rattle.xfs_image.specs.View.{counts_of, log_of}
-use Rattle.xfs_scan.specs.declared.evidence.Evidence.{Evidence}
-use Rattle.xfs_made.specs.Groups.{due_groups}
-use Rattle.xfs_made.specs.Standing.{agf_crc_at, agi_crc_at}
-use Rattle.xfs_request.specs.Chunks.{inodes_wanted}
+use Rattle.xfs_rename.specs.xfs_scan.declared.evidence.Evidence.{Evidence}
+use Rattle.xfs_rename.specs.xfs_made.Groups.{due_groups}
+use Rattle.xfs_rename.specs.xfs_made.Standing.{agf_crc_at, agi_crc_at}
+use Rattle.xfs_rename.specs.xfs_request.Chunks.{inodes_wanted}
 use Rattle.xfs_restored.specs.Logs.{IsLogDue, numbers_kept}
-use Rattle.xfs_rebuild.specs.declared.names_due.NamesDue.{NamesDue}
+use Rattle.xfs_rename.specs.xfs_rebuild.declared.names_due.NamesDue.{NamesDue}
 use Rattle.xfs_rename.specs.Lost.{lost_due}
 use Rattle.xfs_rename.specs.Settled.{settled}
 use Rattle.xfs_rename.specs.declared.planning.Renamed.{Renamed}

@@ -5,10 +5,10 @@ use Rattle.xfs_disk.specs.declared.stamp.Stamp.{Stamp}
 use Rattle.xfs_geom.specs.Volumes.{volume_of}
 use Rattle.xfs_geom.specs.declared.geometry.Geometry.{Geometry}
 use Rattle.xfs_image.specs.Consistent.{IsElected}
-use Rattle.xfs_scan.specs.Evidence.{IsEvidence}
-use Rattle.xfs_scan.specs.declared.evidence.Evidence.{Evidence}
-use Rattle.xfs_rebuild.specs.Rebuilds.{IsRebuildOf}
-use Rattle.xfs_rebuild.specs.declared.planning.Rebuilt.{Rebuilt}
+use Rattle.xfs_rename.specs.xfs_scan.Evidence.{IsEvidence}
+use Rattle.xfs_rename.specs.xfs_scan.declared.evidence.Evidence.{Evidence}
+use Rattle.xfs_rename.specs.xfs_rebuild.Rebuilds.{IsRebuildOf}
+use Rattle.xfs_rename.specs.xfs_rebuild.declared.planning.Rebuilt.{Rebuilt}
 use Rattle.xfs_restored.specs.Rewriting.{IsRewritten}
 use Rattle.xfs_restored.specs.Kept.{HasKept}
 

@@ -9,7 +9,7 @@ use Rattle.xfs_image.specs.Claims.{candidate_files}
 use Rattle.xfs_image.specs.Directories.{dirs_read, entries_read}
 use Rattle.xfs_salvage.specs.Kept.{entries_of_kept, kept_dirs}
 use Rattle.xfs_salvage.specs.declared.found.Salvaged.{Salvaged}
-use Rattle.xfs_request.specs.declared.seen.SlotSeen.{SlotSeen}
+use Rattle.xfs_rename.specs.xfs_request.declared.seen.SlotSeen.{SlotSeen}
 use Rattle.xfs_restored.specs.DueFiles.{rebuilt_dirs, rebuilt_files}
 use Rattle.xfs_restored.specs.Kept.{HasKept}
 

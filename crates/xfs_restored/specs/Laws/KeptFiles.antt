@@ -12,12 +12,12 @@ use Rattle.xfs_laws.specs.Counting.{is_used}
 use Rattle.xfs_space.specs.Owners.{file_runs}
 use Rattle.xfs_volume.specs.declared.groups.GroupRec.{GroupRec}
 use Rattle.xfs_place.specs.declared.placed.GroupPlaced.{GroupPlaced}
-use Rattle.xfs_made.specs.Groups.{due_groups}
+use Rattle.xfs_rename.specs.xfs_made.Groups.{due_groups}
 use Rattle.xfs_salvage.specs.declared.found.Salvaged.{Salvaged}
-use Rattle.xfs_request.specs.Chunks.{is_inode_used}
-use Rattle.xfs_request.specs.Requests.{volume_wanted}
-use Rattle.xfs_request.specs.declared.seen.SlotSeen.{SlotSeen}
-use Rattle.xfs_requested.specs.Handed.{IsKeptOf}
+use Rattle.xfs_rename.specs.xfs_request.Chunks.{is_inode_used}
+use Rattle.xfs_rename.specs.xfs_request.Requests.{volume_wanted}
+use Rattle.xfs_rename.specs.xfs_request.declared.seen.SlotSeen.{SlotSeen}
+use Rattle.xfs_rename.specs.xfs_requested.Handed.{IsKeptOf}
 use Rattle.xfs_restored.specs.DueFiles.{kept_inodes, rebuilt_files, stated_crc}
 use Rattle.xfs_restored.specs.Kept.{HasKept}
 

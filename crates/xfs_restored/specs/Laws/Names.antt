@@ -7,9 +7,9 @@ use Rattle.xfs_geom.specs.declared.geometry.Geometry.{Geometry}
 use Rattle.xfs_naming.specs.Naming.{naming_laws}
 use Rattle.xfs_volume.specs.Laws.{AreKept}
 use Rattle.xfs_salvage.specs.declared.found.Salvaged.{Salvaged}
-use Rattle.xfs_request.specs.Slots.{wanted_slots}
-use Rattle.xfs_request.specs.declared.seen.SlotSeen.{SlotSeen}
-use Rattle.xfs_rebuild.specs.Names.{needs_names}
+use Rattle.xfs_rename.specs.xfs_request.Slots.{wanted_slots}
+use Rattle.xfs_rename.specs.xfs_request.declared.seen.SlotSeen.{SlotSeen}
+use Rattle.xfs_rename.specs.xfs_rebuild.Names.{needs_names}
 use Rattle.xfs_restored.specs.DueFiles.{rebuilt_dirs, rebuilt_files}
 use Rattle.xfs_restored.specs.Kept.{HasKept}
 

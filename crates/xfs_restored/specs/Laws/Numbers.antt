@@ -4,8 +4,8 @@ use Rattle.xfs_disk.specs.Blocks.{Image}
 use Rattle.xfs_disk.specs.declared.stamp.Stamp.{Stamp}
 use Rattle.xfs_geom.specs.Volumes.{volume_of}
 use Rattle.xfs_geom.specs.declared.geometry.Geometry.{Geometry}
-use Rattle.xfs_scan.specs.declared.evidence.Evidence.{Evidence}
-use Rattle.xfs_rebuild.specs.declared.names_due.NamesDue.{NamesDue}
+use Rattle.xfs_rename.specs.xfs_scan.declared.evidence.Evidence.{Evidence}
+use Rattle.xfs_rename.specs.xfs_rebuild.declared.names_due.NamesDue.{NamesDue}
 use Rattle.xfs_rename.specs.Lost.{lost_due}
 use Rattle.xfs_rename.specs.Renames.{old_files, placed_forks, renamed_slots}
 use Rattle.xfs_rename.specs.Settled.{settled}

@@ -5,8 +5,8 @@ use Rattle.xfs_disk.specs.declared.stamp.Stamp.{Stamp}
 use Rattle.xfs_geom.specs.declared.geometry.Geometry.{Geometry}
 use Rattle.xfs_render.specs.Drafts.{row_places}
 use Rattle.xfs_render.specs.Plans.{IsOnce, planned}
-use Rattle.xfs_rebuild.specs.Rebuilds.{Ground, IsPlannedOn}
-use Rattle.xfs_rebuild.specs.declared.planning.Rebuilt.{Rebuilt}
+use Rattle.xfs_rename.specs.xfs_rebuild.Rebuilds.{Ground, IsPlannedOn}
+use Rattle.xfs_rename.specs.xfs_rebuild.declared.planning.Rebuilt.{Rebuilt}
 
 -- No block is planned twice in the plan of a rebuild (`rebuilds`), nor in what is left of it to write (`left`).
 abbrev pub RebuildsPlanEachBlockOnceRebuilds : Type 0

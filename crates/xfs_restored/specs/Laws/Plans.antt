@@ -13,11 +13,11 @@ use Rattle.xfs_names.specs.declared.records.WantedNames.{WantedNames}
 use Rattle.xfs_place.specs.Pool.{is_listed}
 use Rattle.xfs_render.specs.Plans.{HoldsPlan, IsOnce, planned}
 use Rattle.xfs_render.specs.Slots.{IsMadeSlot, IsSlotDue, wanted_of}
-use Rattle.xfs_made.specs.Standing.{IsStanding}
-use Rattle.xfs_rebuild.specs.declared.names_due.NamesDue.{NamesDue}
+use Rattle.xfs_rename.specs.xfs_made.Standing.{IsStanding}
+use Rattle.xfs_rename.specs.xfs_rebuild.declared.names_due.NamesDue.{NamesDue}
 use Rattle.xfs_restored.specs.Rewriting.{IsRewritten}
 use Rattle.xfs_rename.specs.Lost.{lost_due}
-use Rattle.xfs_changes.specs.Nodes.{first_of_cluster}
+use Rattle.xfs_rename.specs.xfs_changes.Nodes.{first_of_cluster}
 use Rattle.xfs_rename.specs.Renames.{IsRenamed, old_files, placed_forks, renamed_slots, renamed_wanted}
 use Rattle.xfs_rename.specs.Settled.{AreWanted, settled}
 use Rattle.xfs_rename.specs.declared.planning.Renamed.{Renamed}

@@ -10,9 +10,9 @@ use Rattle.xfs_volume.specs.declared.files.FileRec.{FileRec}
 use Rattle.xfs_render.specs.Drafts.{row_places}
 use Rattle.xfs_render.specs.Plans.{planned}
 use Rattle.xfs_salvage.specs.Kept.{taken_of}
-use Rattle.xfs_rebuild.specs.Rebuilds.{Ground, IsPlannedOn}
-use Rattle.xfs_rebuild.specs.declared.planning.Rebuilt.{Rebuilt}
-use Rattle.xfs_made.specs.Unused.{IsOfLog, IsUnusedBlock}
+use Rattle.xfs_rename.specs.xfs_rebuild.Rebuilds.{Ground, IsPlannedOn}
+use Rattle.xfs_rename.specs.xfs_rebuild.declared.planning.Rebuilt.{Rebuilt}
+use Rattle.xfs_rename.specs.xfs_made.Unused.{IsOfLog, IsUnusedBlock}
 use Rattle.xfs_restored.specs.InPlace.{IsInPlace}
 
 -- The first blocks of the plan of a rebuild are blocks that nothing kept has, without a fixed use and not reserved (`fresh`);

@@ -7,8 +7,8 @@ use Rattle.xfs_geom.specs.declared.geometry.Geometry.{Geometry}
 use Rattle.xfs_image.specs.Consistent.{IsConsistent, IsElected}
 use Rattle.xfs_image.specs.Keeping.{Keeps, Protected}
 use Rattle.xfs_laws.specs.Lawful.{broken_law}
-use Rattle.xfs_scan.specs.declared.evidence.Evidence.{Evidence}
-use Rattle.xfs_rebuild.specs.declared.names_due.NamesDue.{NamesDue}
+use Rattle.xfs_rename.specs.xfs_scan.declared.evidence.Evidence.{Evidence}
+use Rattle.xfs_rename.specs.xfs_rebuild.declared.names_due.NamesDue.{NamesDue}
 use Rattle.xfs_rename.specs.declared.planning.Renamed.{Renamed}
 use Rattle.xfs_restored.specs.Names.{HasWantedNames}
 use Rattle.xfs_restored.specs.Relinking.{IsRelinked}

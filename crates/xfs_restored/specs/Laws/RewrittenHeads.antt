@@ -8,15 +8,15 @@ use Rattle.xfs_log.specs.xfs_heads.declared.log_state.LogState.{LogState}
 use Rattle.xfs_image.specs.Consistent.{IsElected, backup_agrees}
 use Rattle.xfs_image.specs.Groups.{groups_read}
 use Rattle.xfs_image.specs.View.{counts_of, log_of}
-use Rattle.xfs_scan.specs.Evidence.{IsEvidence}
-use Rattle.xfs_scan.specs.declared.evidence.Evidence.{Evidence}
-use Rattle.xfs_made.specs.Groups.{due_groups}
-use Rattle.xfs_made.specs.Standing.{agf_crc_at, agi_crc_at}
-use Rattle.xfs_request.specs.Chunks.{inodes_wanted}
-use Rattle.xfs_request.specs.Cycles.{due_cycle, kept_lsns}
-use Rattle.xfs_rebuild.specs.Bytes.{file_lsns}
-use Rattle.xfs_rebuild.specs.Rebuilds.{Ground, IsPlannedOn, IsRebuildOf}
-use Rattle.xfs_rebuild.specs.declared.planning.Rebuilt.{Rebuilt}
+use Rattle.xfs_rename.specs.xfs_scan.Evidence.{IsEvidence}
+use Rattle.xfs_rename.specs.xfs_scan.declared.evidence.Evidence.{Evidence}
+use Rattle.xfs_rename.specs.xfs_made.Groups.{due_groups}
+use Rattle.xfs_rename.specs.xfs_made.Standing.{agf_crc_at, agi_crc_at}
+use Rattle.xfs_rename.specs.xfs_request.Chunks.{inodes_wanted}
+use Rattle.xfs_rename.specs.xfs_request.Cycles.{due_cycle, kept_lsns}
+use Rattle.xfs_rename.specs.xfs_rebuild.Bytes.{file_lsns}
+use Rattle.xfs_rename.specs.xfs_rebuild.Rebuilds.{Ground, IsPlannedOn, IsRebuildOf}
+use Rattle.xfs_rename.specs.xfs_rebuild.declared.planning.Rebuilt.{Rebuilt}
 use Rattle.xfs_restored.specs.Rewriting.{IsRewritten}
 
 -- All groups read, with the chunks of the kept clusters and what was placed in each.

@@ -11,12 +11,12 @@ use Rattle.xfs_image.specs.Slots.{cluster_inodes, slot_bytes}
 use Rattle.xfs_place.specs.Pool.{is_listed}
 use Rattle.xfs_render.specs.Plans.{HoldsPlan, planned}
 use Rattle.xfs_render.specs.Slots.{IsSlotDue}
-use Rattle.xfs_scan.specs.Evidence.{IsEvidence}
-use Rattle.xfs_scan.specs.declared.evidence.Evidence.{Evidence}
+use Rattle.xfs_rename.specs.xfs_scan.Evidence.{IsEvidence}
+use Rattle.xfs_rename.specs.xfs_scan.declared.evidence.Evidence.{Evidence}
 use Rattle.xfs_views.specs.SameFiles.{HasSameClaims}
-use Rattle.xfs_made.specs.Standing.{IsStanding}
-use Rattle.xfs_rebuild.specs.Rebuilds.{Ground, IsPlannedOn, IsRebuildOf, asked, slots_asked}
-use Rattle.xfs_rebuild.specs.declared.planning.Rebuilt.{Rebuilt}
+use Rattle.xfs_rename.specs.xfs_made.Standing.{IsStanding}
+use Rattle.xfs_rename.specs.xfs_rebuild.Rebuilds.{Ground, IsPlannedOn, IsRebuildOf, asked, slots_asked}
+use Rattle.xfs_rename.specs.xfs_rebuild.declared.planning.Rebuilt.{Rebuilt}
 use Rattle.xfs_restored.specs.Rewriting.{IsRewritten}
 
 -- The image then holds the whole plan of the rebuild, of which nothing is written that it held before (`held`). Each block that is

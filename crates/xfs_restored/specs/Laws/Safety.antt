@@ -6,11 +6,11 @@ use Rattle.xfs_geom.specs.Volumes.{volume_of}
 use Rattle.xfs_geom.specs.declared.geometry.Geometry.{Geometry}
 use Rattle.xfs_image.specs.Consistent.{IsElected}
 use Rattle.xfs_image.specs.Keeping.{Keeps, Protected}
-use Rattle.xfs_scan.specs.Evidence.{IsEvidence}
-use Rattle.xfs_scan.specs.declared.evidence.Evidence.{Evidence}
+use Rattle.xfs_rename.specs.xfs_scan.Evidence.{IsEvidence}
+use Rattle.xfs_rename.specs.xfs_scan.declared.evidence.Evidence.{Evidence}
 use Rattle.xfs_writing.specs.Writing.{writes_of_rows, written}
-use Rattle.xfs_rebuild.specs.Rebuilds.{IsRebuildOf}
-use Rattle.xfs_rebuild.specs.declared.planning.Rebuilt.{Rebuilt}
+use Rattle.xfs_rename.specs.xfs_rebuild.Rebuilds.{IsRebuildOf}
+use Rattle.xfs_rename.specs.xfs_rebuild.declared.planning.Rebuilt.{Rebuilt}
 
 -- Once a rebuild is written, each file that was protected is kept: it has the same bytes, attributes, target and device, and the same
 -- core but for its number of names, the chain of inodes that wait to be removed, and its checksum.

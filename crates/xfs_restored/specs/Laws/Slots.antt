@@ -21,20 +21,20 @@ use Rattle.xfs_inode.specs.Forks.{core_type, fork_extent}
 use Rattle.xfs_inode.specs.Slots.{fork_bytes}
 use Rattle.xfs_render.specs.Slots.{IsMadeSlot, IsSlotDue, SetsFork, wanted_of}
 use Rattle.xfs_render.specs.declared.wanted_slots.SlotWanted.{SlotWanted}
-use Rattle.xfs_built.specs.Extents.{extent_of_run}
-use Rattle.xfs_changes.specs.Forks.{extents_fork, run_bytes, short_fork}
-use Rattle.xfs_changes.specs.Slots.{changes_of, fork_at, links_held_at, links_set, with_changes}
+use Rattle.xfs_rename.specs.xfs_built.Extents.{extent_of_run}
+use Rattle.xfs_rename.specs.xfs_changes.Forks.{extents_fork, run_bytes, short_fork}
+use Rattle.xfs_rename.specs.xfs_changes.Slots.{changes_of, fork_at, links_held_at, links_set, with_changes}
 use Rattle.xfs_disk.specs.Blocks.{Image, bytes_of_block}
 use Rattle.xfs_disk.specs.declared.stamp.Stamp.{Stamp}
 use Rattle.xfs_inode.specs.Named.{named_attr, slot_reads}
 use Rattle.xfs_inode.specs.declared.files.FileRead.{FileRead}
 use Rattle.xfs_volume.specs.declared.files.FileRec.{FileRec}
-use Rattle.xfs_changes.specs.declared.forks.DirectoryFork.{DirectoryFork}
-use Rattle.xfs_changes.specs.declared.lost_found.Lost.{Lost}
-use Rattle.xfs_changes.specs.declared.changes.SlotChange.{SlotChange}
+use Rattle.xfs_rename.specs.xfs_changes.declared.forks.DirectoryFork.{DirectoryFork}
+use Rattle.xfs_rename.specs.xfs_changes.declared.lost_found.Lost.{Lost}
+use Rattle.xfs_rename.specs.xfs_changes.declared.changes.SlotChange.{SlotChange}
 use Rattle.xfs_restored.specs.Changes.{ChangesAscend, LinksAscend, SlotsAscend, directory_change, first_change, inodes_taken, lost_slot, with_change}
-use Rattle.xfs_built.specs.Directories.{BuiltRuns, FitsExtent, IsFileOf, IsShortFileOf}
-use Rattle.xfs_built.specs.Pieces.{IsPlacedRun, offsets_in, places_of_runs}
+use Rattle.xfs_rename.specs.xfs_built.Directories.{BuiltRuns, FitsExtent, IsFileOf, IsShortFileOf}
+use Rattle.xfs_rename.specs.xfs_built.Pieces.{IsPlacedRun, offsets_in, places_of_runs}
 use Rattle.xfs_restored.specs.Reading.{AreExtents, IsFreshDirectory, KeepsAttributes, ReadsBefore, StandsBeside, directory_file, forked_core, forked_file, fresh_directory_slot, kept_directory_slot, made_core, rebuilt_file}
 
 -- What is then wanted of a slot is what was wanted of it before, with what names change in it.

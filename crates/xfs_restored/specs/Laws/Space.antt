@@ -8,13 +8,13 @@ use Rattle.xfs_geom.specs.declared.geometry.Geometry.{Geometry}
 use Rattle.xfs_image.specs.Files.{clusters_of, inodes_of}
 use Rattle.xfs_image.specs.Slots.{cluster_inodes}
 use Rattle.xfs_laws.specs.Counting.{by_group, chunk_laws, counter_laws, group_chains, list_laws}
-use Rattle.xfs_scan.specs.declared.evidence.Evidence.{Evidence}
+use Rattle.xfs_rename.specs.xfs_scan.declared.evidence.Evidence.{Evidence}
 use Rattle.xfs_space.specs.SpaceLaws.{space_laws}
 use Rattle.xfs_volume.specs.Laws.{AreKept}
-use Rattle.xfs_made.specs.Groups.{due_groups}
+use Rattle.xfs_rename.specs.xfs_made.Groups.{due_groups}
 use Rattle.xfs_place.specs.declared.placed.GroupPlaced.{GroupPlaced}
-use Rattle.xfs_request.specs.Chunks.{inodes_wanted}
-use Rattle.xfs_rebuild.specs.declared.names_due.NamesDue.{NamesDue}
+use Rattle.xfs_rename.specs.xfs_request.Chunks.{inodes_wanted}
+use Rattle.xfs_rename.specs.xfs_rebuild.declared.names_due.NamesDue.{NamesDue}
 use Rattle.xfs_rename.specs.Lost.{lost_due}
 use Rattle.xfs_rename.specs.Renames.{old_files}
 use Rattle.xfs_rename.specs.Settled.{settled}

@@ -7,11 +7,11 @@ use Rattle.xfs_geom.specs.declared.geometry.Geometry.{Geometry}
 use Rattle.xfs_image.specs.Consistent.{IsConsistent, IsElected}
 use Rattle.xfs_image.specs.View.{view}
 use Rattle.xfs_laws.specs.Lawful.{broken_law}
-use Rattle.xfs_scan.specs.Evidence.{IsEvidence}
-use Rattle.xfs_scan.specs.declared.evidence.Evidence.{Evidence}
+use Rattle.xfs_rename.specs.xfs_scan.Evidence.{IsEvidence}
+use Rattle.xfs_rename.specs.xfs_scan.declared.evidence.Evidence.{Evidence}
 use Rattle.xfs_writing.specs.Writing.{writes_of_rows, written}
-use Rattle.xfs_rebuild.specs.Rebuilds.{IsRebuildOf}
-use Rattle.xfs_rebuild.specs.declared.planning.Rebuilt.{Rebuilt}
+use Rattle.xfs_rename.specs.xfs_rebuild.Rebuilds.{IsRebuildOf}
+use Rattle.xfs_rename.specs.xfs_rebuild.declared.planning.Rebuilt.{Rebuilt}
 use Rattle.xfs_restored.specs.Rewriting.{IsRewritten}
 use Rattle.xfs_restored.specs.Names.{HasKeptNames}
 use Rattle.xfs_restored.specs.Restoring.{restored_catalog}

@@ -11,10 +11,10 @@ use Rattle.xfs_names.specs.declared.records.WantedNames.{WantedNames}
 use Rattle.xfs_place.specs.Objects.{ServeAsks, asks_of}
 use Rattle.xfs_place.specs.declared.placed.Placed.{Placed}
 use Rattle.xfs_scan.specs.declared.evidence.Evidence.{Evidence}
-use Rattle.xfs_rebuild.specs.Changes.{CanChange}
-use Rattle.xfs_rebuild.specs.Rebuilds.{Ground}
-use Rattle.xfs_rebuild.specs.declared.names_due.NamesDue.{NamesDue}
-use Rattle.xfs_rename.specs.Renames.{AreBuilt, placed_forks, renamed_slots, renamed_wanted}
+use Rattle.xfs_mend.specs.xfs_rebuild.Changes.{CanChange}
+use Rattle.xfs_mend.specs.xfs_rebuild.Rebuilds.{Ground}
+use Rattle.xfs_mend.specs.xfs_rebuild.declared.names_due.NamesDue.{NamesDue}
+use Rattle.xfs_mend.specs.xfs_rename.Renames.{AreBuilt, placed_forks, renamed_slots, renamed_wanted}
 use Rattle.xfs_settled.specs.Gathered.{IsGathered}
 
 -- What is wanted of slots once names are settled can be made of what stands there, in each block of the volume, whatever place the

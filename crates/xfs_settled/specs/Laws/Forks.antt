@@ -10,9 +10,9 @@ use Rattle.xfs_names.specs.declared.building.ForkRoom.{ForkRoom}
 use Rattle.xfs_names.specs.declared.records.WantedNames.{WantedNames}
 use Rattle.xfs_place.specs.Objects.{ServeAsks, asks_of}
 use Rattle.xfs_place.specs.declared.placed.Placed.{Placed}
-use Rattle.xfs_rebuild.specs.declared.names_due.NamesDue.{NamesDue}
+use Rattle.xfs_mend.specs.xfs_rebuild.declared.names_due.NamesDue.{NamesDue}
 use Rattle.xfs_built.specs.Asks.{objects_of}
-use Rattle.xfs_rename.specs.Renames.{AreBuilt, renamed_wanted}
+use Rattle.xfs_mend.specs.xfs_rename.Renames.{AreBuilt, renamed_wanted}
 use Rattle.xfs_built.specs.Directories.{HasOwnCounts}
 use Rattle.xfs_built.specs.Pieces.{IsLowRun}
 use Rattle.xfs_settled.specs.Served.{AreServed}

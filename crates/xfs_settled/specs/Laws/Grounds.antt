@@ -5,8 +5,8 @@ use Rattle.xfs_disk.specs.declared.stamp.Stamp.{Stamp}
 use Rattle.xfs_geom.specs.Volumes.{volume_of}
 use Rattle.xfs_geom.specs.declared.geometry.Geometry.{Geometry}
 use Rattle.xfs_log.specs.xfs_heads.declared.log_state.LogState.{LogState}
-use Rattle.xfs_rebuild.specs.Bytes.{AreAtHand, AreReadOf}
-use Rattle.xfs_rebuild.specs.Rebuilds.{Ground, IsGround}
+use Rattle.xfs_mend.specs.xfs_rebuild.Bytes.{AreAtHand, AreReadOf}
+use Rattle.xfs_mend.specs.xfs_rebuild.Rebuilds.{Ground, IsGround}
 use Rattle.xfs_render.specs.declared.bytes.Bytes.{Bytes}
 use Rattle.xfs_render.specs.declared.wanted_slots.SlotWanted.{SlotWanted}
 use Rattle.xfs_scan.specs.Evidence.{IsEvidence}

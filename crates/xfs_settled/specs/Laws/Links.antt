@@ -4,8 +4,8 @@ use Rattle.std.specs.List.{All}
 use Rattle.xfs_geom.specs.declared.geometry.Geometry.{Geometry}
 use Rattle.xfs_names.specs.Built.{CanBeBuilt}
 use Rattle.xfs_names.specs.declared.records.WantedNames.{WantedNames}
-use Rattle.xfs_rebuild.specs.declared.names_due.NamesDue.{NamesDue}
-use Rattle.xfs_rename.specs.Settled.{AreWanted}
+use Rattle.xfs_mend.specs.xfs_rebuild.declared.names_due.NamesDue.{NamesDue}
+use Rattle.xfs_mend.specs.xfs_rename.Settled.{AreWanted}
 use Rattle.xfs_changes.specs.declared.lost_found.Lost.{Lost}
 
 -- Where directories can be built of the names that are wanted, 32 bits hold the number of links of each file.

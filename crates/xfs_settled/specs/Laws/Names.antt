@@ -7,9 +7,9 @@ use Rattle.xfs_geom.specs.declared.records.Run.{Run}
 use Rattle.xfs_names.specs.declared.records.WantedNames.{WantedNames}
 use Rattle.xfs_place.specs.Objects.{ServeAsks}
 use Rattle.xfs_place.specs.declared.wanted.RunAsk.{RunAsk}
-use Rattle.xfs_rebuild.specs.Rebuilds.{AreNamesDue, Ground}
-use Rattle.xfs_rebuild.specs.declared.names_due.NamesDue.{NamesDue}
-use Rattle.xfs_rename.specs.Settled.{AreWanted}
+use Rattle.xfs_mend.specs.xfs_rebuild.Rebuilds.{AreNamesDue, Ground}
+use Rattle.xfs_mend.specs.xfs_rebuild.declared.names_due.NamesDue.{NamesDue}
+use Rattle.xfs_mend.specs.xfs_rename.Settled.{AreWanted}
 use Rattle.xfs_changes.specs.declared.lost_found.Lost.{Lost}
 
 -- What is known of a volume in which a name has to change is given by what its rebuild goes by (`due`), and the names that are

@@ -1,9 +1,9 @@
 -- Why nothing is planned, and what comes of what is.
 use Rattle.std.proofs.Common.{◌≡◌, ◌≤◌, inl, refl, ◌∙◌, subst}
 use Rattle.xfs_disk.specs.Faults.{Rose}
-use Rattle.xfs_rebuild.specs.Refusals.{IsRefused}
-use Rattle.xfs_rebuild.specs.declared.faults.RebuildFault.{RebuildFault}
-use Rattle.xfs_rebuild.specs.declared.faults.RebuildFault.TheVariants as faults
+use Rattle.xfs_rename.specs.xfs_rebuild.Refusals.{IsRefused}
+use Rattle.xfs_rename.specs.xfs_rebuild.declared.faults.RebuildFault.{RebuildFault}
+use Rattle.xfs_rename.specs.xfs_rebuild.declared.faults.RebuildFault.TheVariants as faults
 use Rattle.xfs_mend.proofs.Anew.{leaves_anew, leaves_as, room_due, stops_as, stops_of_anew, written_due}
 use Rattle.xfs_mend.proofs.Ending.{ends_behind, ends_read, stops_behind, stops_read}
 use Rattle.xfs_mend.proofs.Owing.{owed_as}

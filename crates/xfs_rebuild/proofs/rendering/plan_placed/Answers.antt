@@ -1,6 +1,6 @@
 use Rattle.std.proofs.Common.{arith}
 use Rattle.xfs_disk.proofs.Reading.{reads_none}
-use Rattle.xfs_empty.proofs.Planned.{planned_low}
+use Rattle.xfs_request.proofs.xfs_empty.Planned.{planned_low}
 use Rattle.xfs_rebuild.proofs.Causes.{no_later}
 use Rattle.xfs_rebuild.proofs.Rebuilding.{rendered_left}
 use Rattle.xfs_rebuild.proofs.rendering.plan_placed.Goals as goal

@@ -3,7 +3,7 @@ use Rattle.std.specs.List.{All}
 use Rattle.std.specs.List.Sorted.{IsNonDecreasingBy}
 use Rattle.xfs_disk.proofs.Reading.{reads_none, reads_on}
 use Rattle.xfs_render.specs.declared.wanted_slots.SlotWanted.{SlotWanted}
-use Rattle.xfs_built.specs.Asks.{blocks_of_built}
+use Rattle.xfs_changes.specs.xfs_built.Asks.{blocks_of_built}
 use Rattle.xfs_changes.specs.Slots.{with_changes}
 use Rattle.xfs_rename.proofs.Agreed.{cause_on}
 use Rattle.xfs_rename.proofs.SettledBytes.{hand_below, read_below, slots_below}

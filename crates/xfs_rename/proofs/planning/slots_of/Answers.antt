@@ -3,7 +3,7 @@ use Rattle.std.specs.List.Sorted.{IsNonDecreasingBy}
 use Rattle.xfs_geom.specs.Volumes.{volume_of}
 use Rattle.xfs_names.specs.declared.building.BuiltDirectory.{BuiltDirectory}
 use Rattle.xfs_render.specs.declared.wanted_slots.SlotWanted.{SlotWanted}
-use Rattle.xfs_request.specs.Slots.{StandByNumber}
+use Rattle.xfs_rebuild.specs.xfs_request.Slots.{StandByNumber}
 use Rattle.xfs_changes.specs.declared.forks.DirectoryFork.{DirectoryFork}
 use Rattle.xfs_rename.proofs.ForkNumbers.{forks_in_order}
 use Rattle.xfs_rename.proofs.Standing.{in_order}

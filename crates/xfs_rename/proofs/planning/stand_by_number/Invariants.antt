@@ -1,6 +1,6 @@
 use Rattle.std.proofs.Common.{drop}
 use Rattle.xfs_render.specs.declared.wanted_slots.SlotWanted.{SlotWanted}
-use Rattle.xfs_request.specs.Slots.{StandByNumber}
+use Rattle.xfs_rebuild.specs.xfs_request.Slots.{StandByNumber}
 use Rattle.xfs_rename.proofs.planning.stand_by_number.Given as goal
 
 abbrev pub invariant-loop-slot : goal.invariant-loop-slot

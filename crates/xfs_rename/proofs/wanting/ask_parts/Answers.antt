@@ -4,7 +4,7 @@ use Rattle.xfs_geom.specs.Volumes.{volume_of}
 use Rattle.xfs_place.specs.declared.wanted.Wanted.{Wanted}
 use Rattle.xfs_salvage.specs.Kept.{taken_of}
 use Rattle.xfs_salvage.specs.declared.found.Salvaged.{Salvaged}
-use Rattle.xfs_built.specs.Asks.{objects_of}
+use Rattle.xfs_changes.specs.xfs_built.Asks.{objects_of}
 use Rattle.xfs_changes.specs.Replaced.{replaced_blocks}
 use Rattle.xfs_rename.specs.Objects.{asked_with, wanted_with, with_added}
 use Rattle.xfs_rename.specs.Settled.{settled}

@@ -1,6 +1,6 @@
 -- What is known is what was set apart.
 use Rattle.std.proofs.Common.{◌≡◌, IfOk, sym, subst}
-use Rattle.xfs_built.specs.Asks.{objects_of}
+use Rattle.xfs_changes.specs.xfs_built.Asks.{objects_of}
 use Rattle.xfs_rebuild.specs.Rebuilds.{HasNamesDue}
 use Rattle.xfs_rebuild.specs.declared.names_due.NamesDue.{NamesDue}
 use Rattle.xfs_rename.specs.Objects.{wanted_with}

@@ -1,6 +1,6 @@
 use Rattle.std.proofs.Common.{true, map, ◌∙◌}
 use Rattle.xfs_salvage.specs.Kept.{run_of_cluster}
-use Rattle.xfs_built.specs.Asks.{objects_of}
+use Rattle.xfs_changes.specs.xfs_built.Asks.{objects_of}
 use Rattle.xfs_rename.proofs.wanting.wanted_of.Goals as goal
 
 pub objects_of-requires : goal.objects_of-requires

@@ -2,7 +2,7 @@ use Rattle.std.proofs.Common.{◌∙◌, ℕ, ap, refl, sym, subst, lit≤}
 use Rattle.std.specs.Prelude.{IsTrue}
 use Rattle.xfs_word.specs.Seal.{is_sealed}
 use Rattle.xfs_geom.specs.Volumes.{volume_of}
-use Rattle.xfs_inode.specs.Slots.{slot_seal}
+use Rattle.xfs_inodebuild.specs.xfs_inode.Slots.{slot_seal}
 use Rattle.xfs_volume.specs.declared.cores.Core.{Core}
 use Rattle.xfs_render.specs.declared.wanted_slots.SlotBase.{SlotBase}
 use Rattle.xfs_render.specs.Slots.{CanBase, IsBased, forkoff_of}

@@ -4,7 +4,7 @@ use Rattle.std.proofs.lemmas.Result.{IfOk-from_err}
 use Rattle.xfs_dirdata.specs.declared.records.EntryRec.{EntryRec}
 use Rattle.xfs_volume.specs.declared.files.FileRec.{FileRec}
 use Rattle.xfs_naming.specs.Ordered.{AreLinks}
-use Rattle.xfs_laws.proofs.Roots.{root_low}
+use Rattle.xfs_salvage.proofs.xfs_laws.Roots.{root_low}
 use Rattle.xfs_request.specs.Slots.{CanBeSearched, StandByNumber}
 use Rattle.xfs_request.specs.declared.seen.SlotSeen.{SlotSeen}
 use Rattle.xfs_request.proofs.Numbers.{same_directories}

@@ -1,7 +1,7 @@
 use Rattle.std.proofs.Common.{◌≡◌, ◌*◌, ◌%◌, ◌^◌, ◌<◌, ap, ◌∙◌, arith}
 use Rattle.xfs_geom.specs.Volumes.{volume_of}
-use Rattle.xfs_laws.specs.Counting.{bits_below, count_below}
-use Rattle.xfs_laws.proofs.Bits.{count_small, bits_small, shifted_small, room, count_more, bits_more}
+use Rattle.xfs_salvage.specs.xfs_laws.Counting.{bits_below, count_below}
+use Rattle.xfs_salvage.proofs.xfs_laws.Bits.{count_small, bits_small, shifted_small, room, count_more, bits_more}
 use Rattle.xfs_request.specs.Chunks.{is_idle}
 use Rattle.xfs_request.proofs.Counted.{counted}
 use Rattle.xfs_request.proofs.chunks.counted_chunk.Goals as goal

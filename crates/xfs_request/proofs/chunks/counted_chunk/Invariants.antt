@@ -1,6 +1,6 @@
 use Rattle.std.proofs.Common.{◌≡◌}
 use Rattle.xfs_geom.specs.Volumes.{volume_of}
-use Rattle.xfs_laws.specs.Counting.{bits_below, count_below}
+use Rattle.xfs_salvage.specs.xfs_laws.Counting.{bits_below, count_below}
 use Rattle.xfs_request.specs.Chunks.{is_idle}
 use Rattle.xfs_request.proofs.chunks.counted_chunk.Given as goal
 

@@ -2,7 +2,7 @@ use Rattle.std.proofs.Common.{Bool, ◌&&◌, get_or, refl, sym, ap, ◌∙◌}
 use Rattle.std.specs.List.{list_all}
 use Rattle.std.proofs.lemmas.List.{take_all}
 use Rattle.std.proofs.lemmas.List.Folds.{list_all_more, list_all_at}
-use Rattle.xfs_laws.specs.Counting.{is_behind}
+use Rattle.xfs_salvage.specs.xfs_laws.Counting.{is_behind}
 use Rattle.xfs_request.proofs.log.are_behind.Goals as goal
 
 pub loop-lsn-init : goal.loop-lsn-init

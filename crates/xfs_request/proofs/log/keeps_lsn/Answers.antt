@@ -1,7 +1,7 @@
 use Rattle.std.proofs.Common.{◌≡◌, Bool, true, not, ◌&&◌, ◌||◌, sym, ap, ap₂, ◌∙◌}
 use Rattle.xfs_disk.specs.Lists.{is_among}
 use Rattle.xfs_geom.specs.Volumes.{volume_of}
-use Rattle.xfs_image.specs.Clusters.{cluster_of}
+use Rattle.xfs_salvage.specs.xfs_image.Clusters.{cluster_of}
 use Rattle.xfs_request.specs.Slots.{is_free}
 use Rattle.xfs_request.proofs.Numbers.{used_by}
 use Rattle.xfs_request.proofs.log.keeps_lsn.Goals as goal

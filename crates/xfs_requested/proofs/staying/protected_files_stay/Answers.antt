@@ -1,8 +1,8 @@
 use Rattle.xfs_geom.specs.Volumes.{volume_of}
 use Rattle.xfs_image.specs.Candidates.{candidates}
 use Rattle.xfs_image.specs.Claims.{candidate_files}
-use Rattle.xfs_views.proofs.Members.{contains}
-use Rattle.xfs_salvage.specs.Kept.{kept_files}
+use Rattle.xfs_made.proofs.xfs_views.Members.{contains}
+use Rattle.xfs_request.specs.xfs_salvage.Kept.{kept_files}
 use Rattle.xfs_requested.proofs.Protected.{protected_cluster, protected_stays}
 use Rattle.xfs_requested.proofs.staying.protected_files_stay.Goals as goal
 

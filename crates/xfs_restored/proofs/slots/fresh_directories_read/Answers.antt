@@ -1,5 +1,5 @@
 use Rattle.std.proofs.Common.{unwrap_or}
-use Rattle.xfs_changes.specs.Forks.{extents_fork, short_fork}
+use Rattle.xfs_rename.specs.xfs_changes.Forks.{extents_fork, short_fork}
 use Rattle.xfs_restored.proofs.FreshSlots.{fresh_blocks, fresh_made, fresh_short}
 use Rattle.xfs_restored.proofs.slots.fresh_directories_read.Goals as goal
 

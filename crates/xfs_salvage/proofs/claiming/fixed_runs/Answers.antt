@@ -4,7 +4,7 @@ use Rattle.std.proofs.lemmas.List.FromFn.{map-range_with_len_more}
 use Rattle.xfs_kinds.specs.Owners.{headers_owner}
 use Rattle.xfs_geom.specs.Volumes.{volume_of}
 use Rattle.xfs_geom.specs.declared.records.Run.{Run}
-use Rattle.xfs_space.specs.Owners.{new_run}
+use Rattle.xfs_views.specs.xfs_space.Owners.{new_run}
 use Rattle.xfs_kinds.specs.FixedRuns.{header_run, log_run}
 use borrow.Author.Count.{falls}
 use Rattle.std.proofs.lemmas.Result.{IfOk-from_err}

@@ -4,7 +4,7 @@ use Rattle.xfs_geom.specs.Volumes.{volume_of}
 use Rattle.xfs_volume.specs.declared.clusters.ClusterRec.{ClusterRec}
 use Rattle.xfs_volume.specs.declared.files.FileRec.{FileRec}
 use Rattle.xfs_naming.specs.Naming.{NumbersAscend, numbers_of}
-use Rattle.xfs_laws.proofs.Roots.{root_low}
+use Rattle.xfs_views.proofs.xfs_laws.Roots.{root_low}
 use Rattle.xfs_views.specs.Standing.{stands}
 use Rattle.xfs_salvage.specs.Claimable.{AscendClaiming}
 use Rattle.xfs_salvage.specs.Kept.{dirs_among, entries_among, fresh_among}

@@ -2,8 +2,8 @@
 use borrow.Author.Count.{falls}
 use Rattle.std.proofs.Common.{ℕ, ◌^◌, get_or, length, refl}
 use Rattle.std.proofs.lemmas.Result.{IfOk-from_err}
-use Rattle.xfs_space.specs.Owners.{new_run}
-use Rattle.xfs_space.proofs.OwnedRuns.{run_next, runs_end}
+use Rattle.xfs_views.specs.xfs_space.Owners.{new_run}
+use Rattle.xfs_views.proofs.xfs_space.OwnedRuns.{run_next, runs_end}
 use Rattle.xfs_salvage.proofs.runs.push_blocks.Goals as goal
 
 pub loop-block-init : goal.loop-block-init

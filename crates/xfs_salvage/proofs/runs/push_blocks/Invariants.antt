@@ -1,5 +1,5 @@
 use Rattle.std.proofs.Common.{◌≡◌, ◌++◌, ◌^◌, drop}
-use Rattle.xfs_space.specs.Owners.{runs_of_blocks}
+use Rattle.xfs_views.specs.xfs_space.Owners.{runs_of_blocks}
 use Rattle.xfs_salvage.proofs.runs.push_blocks.Given as goal
 
 abbrev pub invariant-loop-block : goal.invariant-loop-block

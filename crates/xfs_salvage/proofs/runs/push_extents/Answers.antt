@@ -4,8 +4,8 @@ use Rattle.std.proofs.Common.{ℕ, false, get_or, length, ap₂, refl}
 use Rattle.std.proofs.lemmas.Result.{IfOk-from_err}
 use Rattle.xfs_geom.specs.Volumes.{volume_of}
 use Rattle.xfs_word.specs.declared.extents.Extent.{Extent}
-use Rattle.xfs_space.specs.Owners.{extent_run, new_run}
-use Rattle.xfs_space.proofs.OwnedRuns.{low_offset, run_next, runs_end}
+use Rattle.xfs_views.specs.xfs_space.Owners.{extent_run, new_run}
+use Rattle.xfs_views.proofs.xfs_space.OwnedRuns.{low_offset, run_next, runs_end}
 use Rattle.xfs_salvage.proofs.runs.push_extents.Goals as goal
 
 pub loop-extent-init : goal.loop-extent-init

@@ -1,6 +1,6 @@
 use Rattle.std.proofs.Common.{◌≡◌, ◌++◌, drop, map}
 use Rattle.xfs_geom.specs.Volumes.{volume_of}
-use Rattle.xfs_space.specs.Owners.{extent_run}
+use Rattle.xfs_views.specs.xfs_space.Owners.{extent_run}
 use Rattle.xfs_salvage.proofs.runs.push_extents.Given as goal
 
 abbrev pub invariant-loop-extent : goal.invariant-loop-extent

@@ -3,9 +3,9 @@ use Rattle.std.specs.List.{All}
 use Rattle.xfs_word.specs.declared.extents.Extent.{Extent}
 use Rattle.xfs_geom.specs.Volumes.{volume_of}
 use Rattle.xfs_geom.specs.declared.records.Run.{Run}
-use Rattle.xfs_space.specs.Owners.{attribute_flag, extent_run, runs_of_blocks, tree_flag}
-use Rattle.xfs_space.specs.Private.Places.{IsPlacedExtent}
-use Rattle.xfs_space.proofs.Lawful.{placed}
+use Rattle.xfs_views.specs.xfs_space.Owners.{attribute_flag, extent_run, runs_of_blocks, tree_flag}
+use Rattle.xfs_views.specs.xfs_space.Private.Places.{IsPlacedExtent}
+use Rattle.xfs_views.proofs.xfs_space.Lawful.{placed}
 use Rattle.xfs_salvage.proofs.Joined.{joined}
 use Rattle.xfs_salvage.proofs.runs.push_file_runs.Goals as goal
 

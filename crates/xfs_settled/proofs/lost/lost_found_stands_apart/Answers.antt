@@ -1,4 +1,4 @@
-use Rattle.xfs_rebuild.proofs.Known.{known_clusters_lie}
+use Rattle.xfs_mend.proofs.xfs_rebuild.Known.{known_clusters_lie}
 use Rattle.xfs_settled.proofs.Found.{names_due}
 use Rattle.xfs_settled.proofs.FoundClusters.{found_inside}
 use Rattle.xfs_settled.proofs.Numbers.{lost_apart, lost_low}
