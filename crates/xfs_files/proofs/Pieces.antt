@@ -68,37 +68,30 @@ take-put_rest n k m into filled within fits =
     ∙ take-append-add (take n into) (filled ++ behind) k
     ∙ ap (λ xs. take n into ++ xs) (take-append-le k filled behind fits)
 
-module _ {F : Type 0} (bytes : F → Option (List ℕ)) (place : F → ℕ) where
+module _ {F : Type 0} (bytes : F → Option (List ℕ)) where
   -- so many bytes of a file from a place on were read into the front of a slice
   pub record HasRead (start done : ℕ) (first now : F) (before into : List ℕ) : Type 0 where
     pub within : done ≤ length into
     pub same_size : length into ≡ length before
     pub same_bytes : bytes now ≡ bytes first
-    pub behind : ForSome (bytes first) (λ all. place now ≡ start + done)
     pub read : ForSome (bytes first) (λ all. take done into ≡ take done (drop start all))
 
   -- so many bytes from the front of a slice were written into a file from a place on
   pub record HasWritten (start done : ℕ) (first now : F) (from : List ℕ) : Type 0 where
     pub within : done ≤ length from
-    pub behind : ForSome (bytes first) (λ all. start ≤ length all → place now ≡ start + done)
     pub written : ForSome (bytes first) (λ all. start ≤ length all → bytes now ≡ Some (with_piece start (take done from) all))
 
   -- more bytes of a file were read behind those before
   pub has_read_more : (start n k m done : ℕ) (first now next : F) (before into filled : List ℕ) → HasRead start n first now before into → done ≡ n + k →
       length (put_mid n m into filled) ≡ length into → length filled ≡ length into - n → k ≤ length filled → bytes next ≡ bytes now →
-      ForSome (bytes now) (λ all. take k filled ≡ take k (drop (place now) all)) → ForSome (bytes now) (λ all. place next ≡ place now + k) →
+      ForSome (bytes now) (λ all. take k filled ≡ take k (drop (start + n) all)) →
       HasRead start done first next before (put_mid n m into filled)
-  has_read_more start n k m done first now next before into filled had sum same size few kept moved went = record {
+  has_read_more start n k m done first now next before into filled had sum same size few kept moved = record {
     within = omega (arith, had.within, size, same, few, sum);
     same_size = same ∙ had.same_size;
     same_bytes = kept ∙ had.same_bytes;
-    behind = λ all told.
-        let at : place now ≡ start + n = had.behind all told in
-        let e : place next ≡ place now + k = went all (had.same_bytes ∙ told) in
-        omega arith;
     read = λ all told.
-        let at : place now ≡ start + n = had.behind all told in
-        let then : take k filled ≡ take k (drop n (drop start all)) = moved all (had.same_bytes ∙ told) ∙ ap (λ p. take k (drop p all)) at ∙ ap (λ xs. take k xs) (sym (drop-drop n start all)) in
+        let then : take k filled ≡ take k (drop n (drop start all)) = moved all (had.same_bytes ∙ told) ∙ ap (λ xs. take k xs) (sym (drop-drop n start all)) in
         ap (λ d. take d (put_mid n m into filled)) sum
         ∙ take-put_rest n k m into filled had.within few
         ∙ (λ i. had.read all told i ++ then i)
@@ -109,38 +102,30 @@ module _ {F : Type 0} (bytes : F → Option (List ℕ)) (place : F → ℕ) wher
   -- a read that failed before it moved anything
   pub has_read_none : (start n m done : ℕ) (first now next : F) (before into filled : List ℕ) → HasRead start n first now before into → done ≡ n →
       length (put_mid n m into filled) ≡ length into → length filled ≡ length into - n → bytes next ≡ bytes now →
-      ForSome (bytes now) (λ all. place next ≡ place now) → HasRead start done first next before (put_mid n m into filled)
-  has_read_none start n m done first now next before into filled had sum same size kept stays =
+      HasRead start done first next before (put_mid n m into filled)
+  has_read_none start n m done first now next before into filled had sum same size kept =
       has_read_more start n 0 m done first now next before into filled had (omega arith) same size (omega arith) kept (λ all told. refl)
-      (λ all told. let at : place next ≡ place now = stays all told in omega arith)
 
   -- more bytes of a slice were written behind those before
   pub has_written_more : (start n k done : ℕ) (first now next : F) (from rest : List ℕ) → HasWritten start n first now from → done ≡ n + k →
       rest ≡ drop n from → k ≤ length rest →
-      ForSome (bytes now) (λ all. place now ≤ length all → bytes next ≡ Some (with_piece (place now) (take k rest) all)) →
-      ForSome (bytes now) (λ all. place next ≡ place now + k) → HasWritten start done first next from
-  has_written_more start n k done first now next from rest had sum same few wrote went = record {
+      ForSome (bytes now) (λ all. start + n ≤ length all → bytes next ≡ Some (with_piece (start + n) (take k rest) all)) → HasWritten start done first next from
+  has_written_more start n k done first now next from rest had sum same few wrote = record {
     within = omega (arith, had.within, few, sum, ap length same, length-drop n from);
-    behind = λ all told inside.
-        let at : place now ≡ start + n = had.behind all told inside in
-        let e : place next ≡ place now + k = went _ (had.written all told inside) in
-        omega arith;
     written = λ all told inside.
-        let at : place now ≡ start + n = had.behind all told inside in
         let long : length (take n from) ≡ n = length-take-le n from had.within in
-        let room : place now ≤ length (with_piece start (take n from) all) = omega (arith, length-with_piece start (take n from) all inside, at, long) in
+        let room : start + n ≤ length (with_piece start (take n from) all) = omega (arith, length-with_piece start (take n from) all inside) in
         wrote (with_piece start (take n from) all) (had.written all told inside) room
-        ∙ (λ i. Some (with_piece (at i) (take k (same i)) (with_piece start (take n from) all)))
+        ∙ (λ i. Some (with_piece (start + n) (take k (same i)) (with_piece start (take n from) all)))
         ∙ ap (λ xs. Some xs) (with_next_piece start n k from all inside had.within)
         ∙ ap (λ d. Some (with_piece start (take d from) all)) (sym sum);
   }
 
   -- a write that failed before it moved anything
   pub has_written_none : (start n done : ℕ) (first now next : F) (from : List ℕ) → HasWritten start n first now from → done ≡ n → bytes next ≡ bytes now →
-      ForSome (bytes now) (λ all. place next ≡ place now) → HasWritten start done first next from
-  has_written_none start n done first now next from had same kept stays = record {
+      HasWritten start done first next from
+  has_written_none start n done first now next from had same kept = record {
     within = omega (arith, had.within, same);
-    behind = λ all told inside. stays _ (had.written all told inside) ∙ had.behind all told inside ∙ ap (λ d. start + d) (sym same);
     written = λ all told inside. kept ∙ had.written all told inside ∙ ap (λ d. Some (with_piece start (take d from) all)) (sym same);
   }
 

@@ -139,10 +139,7 @@ fn fill<F: ByteFile>(file: &mut F, start: u64, into: &mut [u8]) -> usize
     ensures read { ForSome (F.bytes file.old) (λ all. take result into.new ≡ take result (drop start all)) }
     ensures bytes { F.bytes file.new ≡ F.bytes file.old }
 {
-    if file.go_to(start).is_err() {
-        return 0;
-    }
-    match file.read_some(into) {
+    match file.read_some(start, into) {
         Ok(count) => count,
         Err(_) => 0,
     }

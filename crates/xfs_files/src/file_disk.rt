@@ -279,16 +279,16 @@ fn read_front_only<F: ByteFile>(
 
 /// Fills the slice with the bytes of the file from this byte on. A file that ends earlier is an error.
 fn read_at<F: ByteFile>(file: &mut F, start: u64, into: &mut [u8]) -> io::Result<()>
+    requires range { start + length into.old ≤ 2 ^ 64 }
     ensures read { OnOk result (ForSome (F.bytes file.old) (λ all. into.new ≡ take (length into.old) (drop start all))) }
     ensures bytes { F.bytes file.new ≡ F.bytes file.old }
 {
-    file.go_to(start)?;
     let mut done = 0;
     for _ in 0..u64::MAX {
         if done == into.len() {
             return Ok(());
         }
-        match file.read_some(&mut into[done..]) {
+        match file.read_some(start + done as u64, &mut into[done..]) {
             Ok(0) => return Err(Error::from(ErrorKind::UnexpectedEof)),
             Ok(count) => done += count,
             Err(error) => {
@@ -303,20 +303,18 @@ fn read_at<F: ByteFile>(file: &mut F, start: u64, into: &mut [u8]) -> io::Result
 
 /// Writes the slice into the file from this byte on. A write that takes nothing is an error.
 fn write_at<F: ByteFile>(file: &mut F, start: u64, from: &[u8]) -> io::Result<()>
+    requires range { start + length from.now ≤ 2 ^ 64 }
     ensures written { OnOk result (ForSome (F.bytes file.old) (λ all. start ≤ length all →
         F.bytes file.new ≡ Some (with_piece start from.now all))) }
     ensures part { OnErr result (ForSome (F.bytes file.old) (λ all. start ≤ length all →
         (n : ℕ) × (n ≤ length from.now) × (F.bytes file.new ≡ Some (with_piece start (take n from.now) all)))) }
 {
-    if let Err(error) = file.go_to(start) {
-        return Err(error);
-    }
     let mut done = 0;
     for _ in 0..u64::MAX {
         if done == from.len() {
             return Ok(());
         }
-        match file.write_some(&from[done..]) {
+        match file.write_some(start + done as u64, &from[done..]) {
             Ok(0) => return Err(Error::from(ErrorKind::WriteZero)),
             Ok(count) => done += count,
             Err(error) => {

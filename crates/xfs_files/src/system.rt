@@ -1,22 +1,21 @@
 //! What the objects of this crate call on a file or a stream of the system: each call is one of the system's.
 
-ghost use Rattle.std.specs.Prelude.{◌≡◌, ℕ, ◌+◌, ◌≤◌, List, length, take, drop, Option, Some, None, OnOk, OnErr, IfOk};
-ghost use Rattle.std.specs.Io.KnownBytes.{Keeps, ReadConsumes, WriteAppends};
+ghost use Rattle.std.specs.Prelude.{◌≡◌, ℕ, ◌≤◌, List, length, take, drop, Option, Some, None, OnOk, OnErr, IfOk};
+ghost use Rattle.std.specs.Io.KnownBytes.{Keeps, WriteAppends};
 ghost use Rattle.std.specs.Option.{ForSome};
 ghost use Rattle.xfs_files.specs.System.{with_piece};
 
 use std::fs::OpenFile;
 use std::io;
 use std::io::{Error, ErrorKind, Read, Seek, SeekFrom, Write};
+use std::os::unix::fs::FileExt;
 
-/// A file of bytes that is read and written from a place on.
+/// A file of bytes that is read and written at any place.
 ///
-/// Contracts see its `bytes` where it tells them, the `place` of the next byte, and that it `is_synced`: a stop of the machine
-/// leaves the bytes that it has. A call that fails moved nothing.
+/// Contracts see its `bytes` where it tells them, and that it `is_synced`: a stop of the machine leaves the bytes that it has. A call
+/// that fails moved nothing.
 pub trait ByteFile {
     ghost bytes: { Self → Option (List ℕ) } = { λ _. None };
-
-    ghost place: { Self → ℕ } = { λ _. 0 };
 
     ghost is_synced: { Self → Type 0 } = { λ _. Unit {0} };
 
@@ -25,25 +24,16 @@ pub trait ByteFile {
         ensures count { IfOk result (λ n. ForSome (bytes self.old) (λ all. n ≡ length all)) }
         ensures bytes { bytes self.new ≡ bytes self.old };
 
-    /// Goes to the byte of number `to`, from 0 on.
-    fn go_to(&mut self, to: u64) -> io::Result<()>
-        ensures place { OnOk result (ForSome (bytes self.old) (λ _. place self.new ≡ to)) }
-        ensures bytes { bytes self.new ≡ bytes self.old };
-
-    /// Moves bytes to the start of `into`, says how many, and goes behind them.
-    fn read_some(&mut self, into: &mut [u8]) -> io::Result<usize>
+    /// Moves bytes of the file, from the byte of number `start` on, to the front of `into`, and says how many.
+    fn read_some(&mut self, start: u64, into: &mut [u8]) -> io::Result<usize>
         ensures within { IfOk result (λ n. n ≤ length into.old) }
-        ensures moved { IfOk result (λ n. ForSome (bytes self.old) (λ all. take n into.new ≡ take n (drop (place self.old) all))) }
-        ensures place { IfOk result (λ n. ForSome (bytes self.old) (λ _. place self.new ≡ place self.old + n)) }
-        ensures stays { OnErr result (ForSome (bytes self.old) (λ _. place self.new ≡ place self.old)) }
+        ensures moved { IfOk result (λ n. ForSome (bytes self.old) (λ all. take n into.new ≡ take n (drop start all))) }
         ensures bytes { bytes self.new ≡ bytes self.old };
 
-    /// Writes bytes from the start of `from`, says how many, and goes behind them.
-    fn write_some(&mut self, from: &[u8]) -> io::Result<usize>
+    /// Writes bytes from the front of `from` into the file, from the byte of number `start` on, and says how many.
+    fn write_some(&mut self, start: u64, from: &[u8]) -> io::Result<usize>
         ensures within { IfOk result (λ n. n ≤ length from.now) }
-        ensures written { IfOk result (λ n. ForSome (bytes self.old) (λ all. place self.old ≤ length all → bytes self.new ≡ Some (with_piece (place self.old) (take n from.now) all))) }
-        ensures place { IfOk result (λ n. ForSome (bytes self.old) (λ _. place self.new ≡ place self.old + n)) }
-        ensures stays { OnErr result (ForSome (bytes self.old) (λ _. place self.new ≡ place self.old)) }
+        ensures written { IfOk result (λ n. ForSome (bytes self.old) (λ all. start ≤ length all → bytes self.new ≡ Some (with_piece start (take n from.now) all))) }
         ensures bytes { OnErr result (bytes self.new ≡ bytes self.old) };
 
     /// Waits until a stop leaves the bytes that the file has.
@@ -71,32 +61,19 @@ pub trait Outlet {
         ensures contents { Keeps (contents self.old) (contents self.new) };
 }
 
-impl<F: Read + Write + Seek + OpenFile> ByteFile for F {
+impl<F: Read + Write + Seek + OpenFile + FileExt> ByteFile for F {
     fn count_bytes(&mut self) -> io::Result<u64>
         ensures count { IfOk result (λ n. ForSome (F.stream_position self.old) (λ _. ForSome (F.stream_bytes self.old) (λ all. n ≡ length all))) }
     {
         self.seek(SeekFrom::End(0))
     }
 
-    fn go_to(&mut self, to: u64) -> io::Result<()>
-        ensures place { OnOk result (ForSome (F.stream_position self.old) (λ _. F.stream_position self.new ≡ Some to)) }
-    {
-        self.seek(SeekFrom::Start(to))?;
-        Ok(())
+    fn read_some(&mut self, start: u64, into: &mut [u8]) -> io::Result<usize> {
+        self.read_at(into, start)
     }
 
-    fn read_some(&mut self, into: &mut [u8]) -> io::Result<usize>
-        ensures within { IfOk result (λ n. n ≤ length into.old) }
-        ensures read { ReadConsumes (F.remaining self.old) (F.remaining self.new) result into.new }
-    {
-        self.read(into)
-    }
-
-    fn write_some(&mut self, from: &[u8]) -> io::Result<usize>
-        ensures within { IfOk result (λ n. n ≤ length from.now) }
-        ensures written { WriteAppends (F.contents self.old) (F.contents self.new) result from.now }
-    {
-        self.write(from)
+    fn write_some(&mut self, start: u64, from: &[u8]) -> io::Result<usize> {
+        self.write_at(from, start)
     }
 
     fn sync(&mut self) -> io::Result<()> {

@@ -12,7 +12,7 @@ use std::alloc::{AllocError, Global};
 use std::env::Env;
 use std::fs::{OpenFile, OpenOptions};
 use std::io::{Error, ErrorKind, Read, Seek, Write};
-use std::os::unix::fs::FileTypeExt;
+use std::os::unix::fs::{FileExt, FileTypeExt};
 use std::random::RandomSource;
 use std::rt::{Clock, Files};
 use std::time::{Duration, SystemTime, UNIX_EPOCH};
@@ -78,7 +78,10 @@ pub trait Host {
         ensures { says_used self.now word.now result };
 }
 
-impl<R: Clock + RandomSource + Env + Files + AllocGlobal + Clone + Drop> Host for R {
+impl<R: Clock + RandomSource + Env + Files + AllocGlobal + Clone + Drop> Host for R
+where
+    R::File: FileExt,
+{
     type Image = FileDisk<R::File>;
 
     type Held = [R::File; 3];
@@ -133,7 +136,7 @@ fn is_pipe<R: Files>(system: &R, name: &str) -> bool {
 }
 
 /// The disk of an opened file. A directory is none, though it may be opened for reading.
-fn disk_of<F: Read + Write + Seek + OpenFile + Drop>(
+fn disk_of<F: Read + Write + Seek + OpenFile + FileExt + Drop>(
     alloc: Global,
     file: F,
 ) -> io::Result<FileDisk<F>>

@@ -1,6 +1,5 @@
 -- Each turn reads the next bytes, or none where it is interrupted.
 use Rattle.std.proofs.Common.{◌≡◌, ℕ, ◌-◌, length, rules, ◌∙◌}
-use Rattle.std.proofs.lemmas.Result.{IfOk-from_err}
 use borrow.Rule.Slice.PartMut.{put_mid}
 use Rattle.xfs_files.proofs.Pieces.{all_read, has_read_more, has_read_none}
 use Rattle.xfs_files.proofs.file_disk.read_at.Goals as goal
@@ -12,17 +11,11 @@ loop-preserved g c =
     let same : length (put_mid c.loop.done rest c.loop.into c.read_some.new.into) ≡ length c.loop.into = search rules in
     let size : length c.read_some.new.into ≡ rest = search rules in
     elim c.match-read_some.branch [
-      | in-Ok w ↦ (has_read_more g.F.ByteFile.bytes g.F.ByteFile.place c.args.start c.loop.done w.in-Ok.count rest c.match-read_some.done c.args.file.now c.loop.file c.read_some.new.self c.args.into.now c.loop.into c.read_some.new.into
-          c.loop.invariant w.done-is same size (search rules) c.read_some.ensures.bytes w.in-Ok.ensures.moved w.in-Ok.ensures.place)
-      | in-Err+else-not-is_interrupted w ↦ (has_read_none g.F.ByteFile.bytes g.F.ByteFile.place c.args.start c.loop.done rest c.match-read_some.done c.args.file.now c.loop.file c.read_some.new.self c.args.into.now c.loop.into c.read_some.new.into
-          c.loop.invariant w.done-is same size c.read_some.ensures.bytes w.in-Err.ensures.stays)
+      | in-Ok w ↦ (has_read_more g.F.ByteFile.bytes c.args.start c.loop.done w.in-Ok.count rest c.match-read_some.done c.args.file.now c.loop.file c.read_some.new.self c.args.into.now c.loop.into c.read_some.new.into
+          c.loop.invariant w.done-is same size (search rules) c.read_some.ensures.bytes w.in-Ok.ensures.moved)
+      | in-Err+else-not-is_interrupted w ↦ (has_read_none g.F.ByteFile.bytes c.args.start c.loop.done rest c.match-read_some.done c.args.file.now c.loop.file c.read_some.new.self c.args.into.now c.loop.into c.read_some.new.into
+          c.loop.invariant w.done-is same size c.read_some.ensures.bytes)
     ]
-
-pub returns-in_err-go_to-clause-read : goal.returns-in_err-go_to-clause-read
-returns-in_err-go_to-clause-read g c = IfOk-from_err c.from_residual.result _ c.from_residual.ensures.0
-
-pub returns-in_err-go_to-clause-bytes : goal.returns-in_err-go_to-clause-bytes
-returns-in_err-go_to-clause-bytes g c = c.go_to.ensures.bytes
 
 pub returns-then-done-into-clause-read : goal.returns-then-done-into-clause-read
 returns-then-done-into-clause-read g c = λ all told.

@@ -3,38 +3,30 @@ use Rattle.std.proofs.Common.{◌≡◌, ℕ, ◌+◌, ◌-◌, ◌≤◌, List,
 use Rattle.std.specs.Option.{ForSome}
 use Rattle.xfs_files.specs.System.{with_piece}
 use Rattle.std.proofs.lemmas.List.{take_all, take_rest}
-use Rattle.xfs_files.proofs.Pieces.{HasWritten, has_written_more, has_written_none, not_written, ok_at}
+use Rattle.xfs_files.proofs.Pieces.{HasWritten, has_written_more, has_written_none, ok_at}
 use Rattle.xfs_files.proofs.file_disk.write_at.Goals as goal
-use Rattle.xfs_files.proofs.file_disk.write_at.Goals.{in-Ok, in-Err-write_some+else-not-is_interrupted}
+use Rattle.xfs_files.proofs.file_disk.write_at.Goals.{in-Ok, in-Err+else-not-is_interrupted}
 
 pub loop-preserved : goal.loop-preserved
 loop-preserved g c =
     elim c.match-write_some.branch [
-      | in-Ok w ↦ (has_written_more g.F.ByteFile.bytes g.F.ByteFile.place c.args.start c.loop.done w.in-Ok.count c.match-write_some.done c.args.file.now c.loop.file c.write_some.new.self c.args.from.now (take (length c.args.from.now - c.loop.done) (drop c.loop.done c.args.from.now))
-          c.loop.invariant w.done-is (take_rest c.args.from.now c.loop.done) w.in-Ok.ensures.within w.in-Ok.ensures.written w.in-Ok.ensures.place)
-      | in-Err-write_some+else-not-is_interrupted w ↦ (has_written_none g.F.ByteFile.bytes g.F.ByteFile.place c.args.start c.loop.done c.match-write_some.done c.args.file.now c.loop.file c.write_some.new.self c.args.from.now
-          c.loop.invariant w.done-is w.in-Err-write_some.ensures.bytes w.in-Err-write_some.ensures.stays)
+      | in-Ok w ↦ (has_written_more g.F.ByteFile.bytes c.args.start c.loop.done w.in-Ok.count c.match-write_some.done c.args.file.now c.loop.file c.write_some.new.self c.args.from.now (take (length c.args.from.now - c.loop.done) (drop c.loop.done c.args.from.now))
+          c.loop.invariant w.done-is (take_rest c.args.from.now c.loop.done) w.in-Ok.ensures.within w.in-Ok.ensures.written)
+      | in-Err+else-not-is_interrupted w ↦ (has_written_none g.F.ByteFile.bytes c.args.start c.loop.done c.match-write_some.done c.args.file.now c.loop.file c.write_some.new.self c.args.from.now
+          c.loop.invariant w.done-is w.in-Err.ensures.bytes)
     ]
 
 pub returns-in-Ok-eq0-clause-part : goal.returns-in-Ok-eq0-clause-part
 returns-in-Ok-eq0-clause-part g c =
     let rest : List ℕ = take (length c.args.from.now - c.loop.done) (drop c.loop.done c.args.from.now) in
-    let wrote : (all : List ℕ) → g.F.ByteFile.bytes c.loop.file ≡ Some all → g.F.ByteFile.place c.loop.file ≤ length all →
-    g.F.ByteFile.bytes c.write_some.new.self ≡ Some (with_piece (g.F.ByteFile.place c.loop.file) (take 0 rest) all) =
-    ok_at (λ n. ForSome (g.F.ByteFile.bytes c.loop.file) (λ all. g.F.ByteFile.place c.loop.file ≤ length all →
-    g.F.ByteFile.bytes c.write_some.new.self ≡ Some (with_piece (g.F.ByteFile.place c.loop.file) (take n rest) all))) c.in-Ok-eq0.is c.in-Ok-eq0.field-0-test c.write_some.ensures.written in
-    let went : (all : List ℕ) → g.F.ByteFile.bytes c.loop.file ≡ Some all → g.F.ByteFile.place c.write_some.new.self ≡ g.F.ByteFile.place c.loop.file + 0 =
-    ok_at (λ n. ForSome (g.F.ByteFile.bytes c.loop.file) (λ all. g.F.ByteFile.place c.write_some.new.self ≡ g.F.ByteFile.place c.loop.file + n)) c.in-Ok-eq0.is c.in-Ok-eq0.field-0-test c.write_some.ensures.place in
-    let now : HasWritten g.F.ByteFile.bytes g.F.ByteFile.place c.args.start c.loop.done c.args.file.now c.write_some.new.self c.args.from.now =
-    has_written_more g.F.ByteFile.bytes g.F.ByteFile.place c.args.start c.loop.done 0 c.loop.done c.args.file.now c.loop.file c.write_some.new.self c.args.from.now rest
-    c.loop.invariant (omega arith) (take_rest c.args.from.now c.loop.done) (omega arith) wrote went in
+    let wrote : (all : List ℕ) → g.F.ByteFile.bytes c.loop.file ≡ Some all → c.args.start + c.loop.done ≤ length all →
+    g.F.ByteFile.bytes c.write_some.new.self ≡ Some (with_piece (c.args.start + c.loop.done) (take 0 rest) all) =
+    ok_at (λ n. ForSome (g.F.ByteFile.bytes c.loop.file) (λ all. c.args.start + c.loop.done ≤ length all →
+    g.F.ByteFile.bytes c.write_some.new.self ≡ Some (with_piece (c.args.start + c.loop.done) (take n rest) all))) c.in-Ok-eq0.is c.in-Ok-eq0.field-0-test c.write_some.ensures.written in
+    let now : HasWritten g.F.ByteFile.bytes c.args.start c.loop.done c.args.file.now c.write_some.new.self c.args.from.now =
+    has_written_more g.F.ByteFile.bytes c.args.start c.loop.done 0 c.loop.done c.args.file.now c.loop.file c.write_some.new.self c.args.from.now rest
+    c.loop.invariant (omega arith) (take_rest c.args.from.now c.loop.done) (omega arith) wrote in
     λ all told inside. (c.loop.done, now.within, now.written all told inside)
-
-pub returns-in-Err-clause-written : goal.returns-in-Err-clause-written
-returns-in-Err-clause-written g c = tt
-
-pub returns-in-Err-clause-part : goal.returns-in-Err-clause-part
-returns-in-Err-clause-part g c = not_written c.args.start c.args.from.now (g.F.ByteFile.bytes c.args.file.now) (g.F.ByteFile.bytes c.go_to.new.self) c.go_to.ensures.bytes
 
 pub returns-then-done-from-clause-written : goal.returns-then-done-from-clause-written
 returns-then-done-from-clause-written g c = λ all told inside.
@@ -56,4 +48,4 @@ pub returns-then-not-is_interrupted-clause-written : goal.returns-then-not-is_in
 returns-then-not-is_interrupted-clause-written g c = tt
 
 pub returns-then-not-is_interrupted-clause-part : goal.returns-then-not-is_interrupted-clause-part
-returns-then-not-is_interrupted-clause-part g c = λ all told inside. (c.loop.done, c.loop.invariant.within, c.in-Err-write_some.ensures.bytes ∙ c.loop.invariant.written all told inside)
+returns-then-not-is_interrupted-clause-part g c = λ all told inside. (c.loop.done, c.loop.invariant.within, c.in-Err.ensures.bytes ∙ c.loop.invariant.written all told inside)
