@@ -12,9 +12,11 @@ fi
 top=$(cd "$(dirname "$0")/.." && pwd)
 work=$(mktemp -d)
 trap 'rm -rf "$work"' EXIT
-measure() { # COMMAND..: seconds, seconds of the processors and KiB of one run, whatever its status is
-  /usr/bin/time -f '%e %U %S %M' -o "$work/time" "$@" > "$work/out" 2>&1 || true
-  tail -1 "$work/time" | awk '{ print $1, $2 + $3, $4 }'
+measure() { # COMMAND..: seconds, seconds of the processors and KiB of one run, whatever its status is; the clock of GNU time is too coarse
+  local start=$EPOCHREALTIME end
+  /usr/bin/time -f '%U %S %M' -o "$work/time" "$@" > "$work/out" 2>&1 || true
+  end=$EPOCHREALTIME
+  tail -1 "$work/time" | awk -v start="$start" -v end="$end" '{ print end - start, $1 + $2, $3 }'
 }
 for image in "$@"; do
   cat "$image" > /dev/null

@@ -61,6 +61,11 @@ fn are_read(rt: &impl Abort, disk: &mut FileDisk<File>) {
     sure(rt, front == [2; 512], "the front of block 1");
     equal(rt, disk.read(0, &mut block), Ok(()));
     sure(rt, block == [1; BLOCK_SIZE], "block 0");
+    let mut due = [1; 2 * BLOCK_SIZE];
+    due[BLOCK_SIZE..].fill(2);
+    let mut both = [0; 2 * BLOCK_SIZE];
+    equal(rt, disk.read_run(0, &mut both), Ok(()));
+    sure(rt, both == due, "both blocks");
 }
 
 /// Fails where a file does not hold these bytes, those of block 1 replaced by twos.
