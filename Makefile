@@ -18,7 +18,7 @@ NEEDED := $(shell $(LINES) | sed 's/[ :].*//')
 SOURCES := $(shell find $(NEEDED:%=crates/%) -path '*/out' -prune -o -path '*/must-fail' -prune -o -type f -print)
 
 xfs: crates.txt HANDLES $(SOURCES)
-	@echo "Proving and building $(words $(NEEDED)) crates: 25 to 40 minutes on four processors, two where all was proved here before."
+	@echo "Proving and building $(words $(NEEDED)) crates: 25 to 60 minutes on four processors, two where all was proved here before."
 	@work=$$(mktemp -d); trap 'rm -rf $$work' EXIT; \
 	git init -q $$work; cp HANDLES $$work; $(LINES) > $$work/crates.txt; \
 	for crate in $(NEEDED); do mkdir -p $$work/crates/$$crate; \
