@@ -13,10 +13,9 @@ top=$(cd "$(dirname "$0")/.." && pwd)
 work=$(mktemp -d)
 trap 'rm -rf "$work"' EXIT
 measure() { # COMMAND..: seconds, seconds of the processors and KiB of one run, whatever its status is; the clock of GNU time is too coarse
-  local start=$EPOCHREALTIME end
-  /usr/bin/time -f '%U %S %M' -o "$work/time" "$@" > "$work/out" 2>&1 || true
-  end=$EPOCHREALTIME
-  tail -1 "$work/time" | awk -v start="$start" -v end="$end" '{ print end - start, $1 + $2, $3 }'
+  local TIMEFORMAT='%3R %3U %3S'
+  { time /usr/bin/time -f '%M' -o "$work/memory" "$@" > "$work/out" 2>&1 || true; } 2> "$work/time"
+  awk -v memory="$(tail -1 "$work/memory")" '{ print $1, $2 + $3, memory }' "$work/time"
 }
 for image in "$@"; do
   cat "$image" > /dev/null
