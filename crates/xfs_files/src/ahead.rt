@@ -22,7 +22,8 @@ const BLOCK_BYTES: u64 = BLOCK_SIZE as u64;
 ///
 /// Blocks are read ahead only where the one behind the last is read whole, so that a block that stands alone costs what it did: first
 /// those up to the next multiple of eight, since chunks of inodes begin and end there, then eight, and then twice as many each time up to
-/// sixty-four. The first bytes of a block are given where it is held, and change nothing here.
+/// sixty-four. The first bytes of a block are read alone where it is not held; once those of more blocks in a row were asked for than a
+/// chunk has, blocks are read ahead for them too.
 #[derive(Drop)]
 pub(crate) struct Ahead {
     bytes: Vec<u8>,
@@ -32,6 +33,10 @@ pub(crate) struct Ahead {
     count: u64,
     /// How many are read ahead next.
     next: u64,
+    /// The block behind the last one whose first bytes were asked for.
+    front: u64,
+    /// Of how many blocks in a row they were, beside the first.
+    fronts: u64,
     ghost held_fit: { count * 4096 ≤ length bytes.items },
     ghost next_fit: { next ≤ 64 },
 }
@@ -48,6 +53,8 @@ impl Ahead {
             first: 0,
             count: 0,
             next: FIRST_AHEAD,
+            front: 0,
+            fronts: 0,
         }
     }
 
@@ -60,6 +67,8 @@ impl Ahead {
             first: 0,
             count: 0,
             next: FIRST_AHEAD,
+            front: 0,
+            fronts: 0,
         })
     }
 
@@ -77,6 +86,37 @@ impl Ahead {
         self.count = 0;
         self.first = at.saturating_add(1);
         self.next = FIRST_AHEAD - self.first % FIRST_AHEAD;
+    }
+
+    /// Reads blocks ahead from this one on, where the first bytes of enough blocks before it were asked for, one after the other.
+    pub(crate) fn look_front<F: ByteFile>(&mut self, file: &mut F, at: u64)
+        requires range { at * 4096 < 2 ^ 64 }
+        requires held { HoldsPart (F.bytes file.old) self.old }
+        ensures held { HoldsPart (F.bytes file.new) self.new }
+        ensures bytes { F.bytes file.new ≡ F.bytes file.old }
+    {
+        self.count_front(at);
+        if self.fronts >= FIRST_AHEAD {
+            self.look(file, at);
+        }
+    }
+
+    /// Counts a block whose first bytes are asked for. Where it is the first behind enough others, what is held is given up, and this block
+    /// is expected next.
+    fn count_front(&mut self, at: u64)
+        ensures { (told : _) → HoldsPart told self.old → HoldsPart told self.new }
+    {
+        self.fronts = if at == self.front {
+            self.fronts.saturating_add(1)
+        } else {
+            0
+        };
+        self.front = at.saturating_add(1);
+        if self.fronts == FIRST_AHEAD {
+            self.count = 0;
+            self.first = at;
+            self.next = FIRST_AHEAD;
+        }
     }
 
     /// Copies the first bytes of a block, as many as are asked for, where it is held.

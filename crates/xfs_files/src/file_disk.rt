@@ -178,7 +178,7 @@ impl<F: ByteFile + Drop> Disk for FileDisk<F> {
         ensures writes { writes_of self.new ≡ writes_of self.old }
     {
         let outcome = match &mut self.file {
-            Some(file) => read_front_only(file, &self.ahead, at, into),
+            Some(file) => read_front_of(file, &mut self.ahead, at, into),
             None => Err(no_file()),
         };
         let outcome = counted(outcome, &mut self.faults);
@@ -256,21 +256,22 @@ fn read_block<F: ByteFile>(
     read_at(file, at * BLOCK_BYTES, into)
 }
 
-/// Fills the slice with the first bytes of a block of the file, which may have been read ahead. Nothing is read ahead for them: where a few
-/// bytes of each block are asked for, whole blocks would be read for nothing. What is held ahead stays as it is.
-fn read_front_only<F: ByteFile>(
+/// Fills the slice with the first bytes of a block of the file, which may have been read ahead. Blocks are read ahead for them only where
+/// many were asked for in a row, as in an election: where a few bytes of each block of a chunk are, whole blocks would be read for nothing.
+fn read_front_of<F: ByteFile>(
     file: &mut F,
-    ahead: &Ahead,
+    ahead: &mut Ahead,
     at: u64,
     into: &mut [u8],
 ) -> io::Result<()>
     requires range { at * 4096 < 2 ^ 64 }
     requires part { length into.old ≤ 4096 }
-    requires held { HoldsPart (F.bytes file.old) ahead.now }
+    requires held { HoldsPart (F.bytes file.old) ahead.old }
     ensures read { OnOk result (ForSome (F.bytes file.old) (λ all. into.new ≡ take (length into.old) (drop (at * 4096) all))) }
     ensures bytes { F.bytes file.new ≡ F.bytes file.old }
-    ensures held { HoldsPart (F.bytes file.new) ahead.now }
+    ensures held { HoldsPart (F.bytes file.new) ahead.new }
 {
+    ahead.look_front(file, at);
     if ahead.give(at, into) {
         return Ok(());
     }
