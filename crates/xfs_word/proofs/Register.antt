@@ -1,5 +1,5 @@
 -- The checksum's register: it takes in bits linearly, so that bytes can be taken in together.
-use Rattle.std.proofs.Common.{◌≡◌, ℕ, zero, suc, ◌+◌, ◌*◌, ◌/◌, ◌%◌, ◌^◌, ◌<◌, ◌≤◌, ◌⊎◌, inl, inr, List, [], ◌∷◌, length, take, drop, fold, slice_index, bit_xor, refl, sym, ◌∙◌, ap, ap₂, arith}
+use Rattle.std.proofs.Common.{◌≡◌, ℕ, zero, suc, ◌+◌, ◌*◌, ◌/◌, ◌%◌, ◌^◌, ◌<◌, ◌≤◌, ◌⊎◌, inl, inr, List, [], ◌∷◌, length, take, drop, fold, slice_index, bit_xor, refl, sym, ◌∙◌, ap, ap₂, subst, arith}
 use Rattle.std.specs.Int.Bits.{xor_zero_r, xor_comm, xor_assoc, xor_shr, xor_self, xor_shifted}
 use Rattle.std.proofs.lemmas.Nat.Bits.{bit_at_xor}
 use Rattle.std.proofs.Math.Nat.{pow-suc, mul_assoc, zero-mul}
@@ -8,6 +8,7 @@ use Rattle.std.proofs.lemmas.List.{drop-drop, length-drop, take-append-drop}
 use Rattle.std.proofs.lemmas.List.Sums.{fold-append}
 use Rattle.byteorder.specs.Endian.{little_number}
 use Rattle.byteorder.specs.Numbers.{little_from-cons}
+use Rattle.xfs_word.specs.Private.Zeros.{AreSixteenZeros, BeginsWithZeros}
 use Rattle.xfs_word.specs.Crc.{polynomial, after_bit, low_bits, after_byte, after_bytes, after_zeros}
 
 -- the lowest bit of a xor is that of the sum
@@ -217,13 +218,13 @@ together (suc n) r (x ∷ xs) fit long =
     ∙ ap (after_zeros (8 * n)) (sym down) ∙ sym (after_zeros-add 8 (8 * n) (bit_xor (bit_xor r x) (more * 256)))
     ∙ sym (ap₂ after_zeros eight (ap (bit_xor r) (number ∙ apart) ∙ sym (xor_assoc r x (more * 256))))
 
--- the register after sixteen bytes and what is left leads to what it and all lead to
-pub turn : (r next at : ℕ) (xs part : List ℕ) → part ≡ drop at xs → next ≡ after_bytes r (take 16 part) → after_bytes next (drop (at + 16) xs) ≡ after_bytes r (drop at xs)
-turn r next at xs part whole taken =
+-- the register after some bytes and what is left leads to what they and all lead to
+pub turn : (n r next at : ℕ) (xs part : List ℕ) → part ≡ drop at xs → next ≡ after_bytes r (take n part) → after_bytes next (drop (at + n) xs) ≡ after_bytes r (drop at xs)
+turn n r next at xs part whole taken =
     let ys = drop at xs in
-    let rest : drop (at + 16) xs ≡ drop 16 ys = sym (drop-drop 16 at xs) in
-    let front : next ≡ after_bytes r (take 16 ys) = taken ∙ ap (λ (p : List ℕ). after_bytes r (take 16 p)) whole in
-    ap₂ after_bytes front rest ∙ sym (fold-append after_byte r (take 16 ys) (drop 16 ys)) ∙ ap (after_bytes r) (take-append-drop 16 ys)
+    let rest : drop (at + n) xs ≡ drop n ys = sym (drop-drop n at xs) in
+    let front : next ≡ after_bytes r (take n ys) = taken ∙ ap (λ (p : List ℕ). after_bytes r (take n p)) whole in
+    ap₂ after_bytes front rest ∙ sym (fold-append after_byte r (take n ys) (drop n ys)) ∙ ap (after_bytes r) (take-append-drop n ys)
 
 -- the register after eight bytes that are taken in together
 pub eight_in : (r word : ℕ) (xs : List ℕ) → AreBytes xs → 8 ≤ length xs → word ≡ bit_xor r (little_number 8 xs) → after_zeros 64 word ≡ after_bytes r (take 8 xs)
@@ -233,7 +234,8 @@ eight_in r word xs fit long is = ap (after_zeros 64) is ∙ sym (together 8 r xs
 pub four_in : (r word : ℕ) (xs : List ℕ) → AreBytes xs → 4 ≤ length xs → word ≡ bit_xor r (little_number 4 xs) → after_zeros 32 word ≡ after_bytes r (take 4 xs)
 four_in r word xs fit long is = ap (after_zeros 32) is ∙ sym (together 4 r xs fit long)
 
-bytes_behind : (n : ℕ) (xs : List ℕ) → AreBytes xs → AreBytes (drop n xs)
+-- what is behind some bytes
+pub bytes_behind : (n : ℕ) (xs : List ℕ) → AreBytes xs → AreBytes (drop n xs)
 bytes_behind zero xs fit = fit
 bytes_behind (suc n) [] fit = fit
 bytes_behind (suc n) (x ∷ xs) fit = bytes_behind n xs (record { below = λ k. fit.below (suc k) })
@@ -269,6 +271,33 @@ sixteen_zeros r xs fit long none none_behind =
     let alone : bit_xor (after_zeros 64 0) (after_zeros 128 r) ≡ after_zeros 128 r =
     ap (λ (x : ℕ). bit_xor x (after_zeros 128 r)) (zeros_of_none 64) ∙ xor_comm 0 (after_zeros 128 r) ∙ xor_zero_r (after_zeros 128 r) in
     sym alone ∙ sixteen r r 0 xs fit long first (sym none_behind)
+
+-- sixteen bytes that are zero, and some behind them
+zeros_behind : (n k r : ℕ) (xs : List ℕ) → AreBytes xs → 16 ≤ length xs → AreSixteenZeros xs → after_zeros n (after_zeros 128 r) ≡ after_bytes (after_zeros 128 r) (take k (drop 16 xs))
+    → after_zeros (128 + n) r ≡ after_bytes r (take (16 + k) xs)
+zeros_behind n k r xs fit long none rest =
+    let front : after_zeros 128 r ≡ after_bytes r (take 16 xs) = sixteen_zeros r xs fit long none.first none.last in
+    after_zeros-add 128 n r ∙ rest
+    ∙ ap (λ (x : ℕ). after_bytes x (take k (drop 16 xs))) front
+    ∙ sym (fold-append after_byte r (take 16 xs) (take k (drop 16 xs)))
+    ∙ ap (after_bytes r) (sym (take-add 16 k xs))
+
+-- sixty-four bytes that are zero
+pub many_zeros : (r : ℕ) (xs : List ℕ) → AreBytes xs → BeginsWithZeros xs → after_zeros 512 r ≡ after_bytes r (take 64 xs)
+many_zeros r xs fit none =
+    let r1 = after_zeros 128 r in
+    let r2 = after_zeros 128 r1 in
+    let r3 = after_zeros 128 r2 in
+    let there : (k : ℕ) → k ≤ 48 → 16 ≤ length (drop k xs) = λ k few. let e = length-drop k xs in omega (arith, e, none.long, few) in
+    let behind : (k : ℕ) → drop 16 (drop k xs) ≡ drop (k + 16) xs = λ k. drop-drop 16 k xs in
+    let fourth : AreSixteenZeros (drop 48 xs) = subst AreSixteenZeros (behind 32) none.last.last in
+    let last : after_zeros 128 r3 ≡ after_bytes r3 (take 16 (drop 48 xs)) =
+    sixteen_zeros r3 (drop 48 xs) (bytes_behind 48 xs fit) (there 48 (omega arith)) fourth.first fourth.last in
+    let third : after_zeros 256 r2 ≡ after_bytes r2 (take 32 (drop 32 xs)) =
+    zeros_behind 128 16 r2 (drop 32 xs) (bytes_behind 32 xs fit) (there 32 (omega arith)) none.last.first (last ∙ ap (λ (l : List ℕ). after_bytes r3 (take 16 l)) (sym (behind 32))) in
+    let second : after_zeros 384 r1 ≡ after_bytes r1 (take 48 (drop 16 xs)) =
+    zeros_behind 256 32 r1 (drop 16 xs) (bytes_behind 16 xs fit) (there 16 (omega arith)) none.first.last (third ∙ ap (λ (l : List ℕ). after_bytes r2 (take 32 l)) (sym (behind 16))) in
+    zeros_behind 384 48 r xs fit (omega (arith, none.long)) none.first.first second
 
 -- the first of a few bytes, and the rest
 pub first_few : (n r next : ℕ) (xs : List ℕ) → next ≡ after_bytes r (take n xs) → after_bytes next (drop n xs) ≡ after_bytes r xs

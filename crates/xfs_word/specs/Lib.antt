@@ -3,3 +3,4 @@ pub mod Extent
 pub mod Field
 pub mod Hash
 pub mod Seal
+pub mod Private

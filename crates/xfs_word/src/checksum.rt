@@ -2,9 +2,10 @@
 
 ghost use Rattle.std.specs.Prelude.{◌≡◌, ℕ, ◌+◌, ◌-◌, ◌*◌, ◌%◌, ◌^◌, ◌<◌, ◌≤◌, length, take, IsTrue};
 ghost use Rattle.xfs_word.specs.Crc.{after_byte, after_bytes, after_zeros, crc_of, cleared, little_field_of, has_checksum};
+ghost use Rattle.xfs_word.specs.Private.Zeros.{AreManyZeros, AreSixteenZeros, BeginsWithZeros};
 ghost use Rattle.xfs_word.specs.Field.{is_width, SameBeside, KeepsBeside, KeepsParts};
 
-use crate::tables::TABLES;
+use crate::tables::{FAR_TABLES, TABLES};
 use byteorder::{ByteOrder, LittleEndian};
 
 /// The CRC-32C of `bytes`.
@@ -69,17 +70,67 @@ fn write(bytes: &mut [u8], at: usize, width: usize, value: u64)
     LittleEndian::write_uint(&mut bytes[at..], value, width);
 }
 
-/// The register after `bytes`, sixteen at a time.
+/// The register after `bytes`, sixteen at a time, and sixty-four where these are zero, as most behind the core of an inode are.
 fn after(start: u32, bytes: &[u8]) -> u32
     ensures { result ≡ after_bytes start bytes.now }
 {
     let mut register = start;
     let mut at = 0;
     while bytes.len() - at >= 16 {
-        register = after_sixteen(register, &bytes[at..]);
-        at += 16;
+        let rest = &bytes[at..];
+        if begins_with_zeros(rest) {
+            register = after_many_zeros(register);
+            at += 64;
+        } else {
+            register = after_sixteen(register, rest);
+            at += 16;
+        }
     }
     after_few(register, &bytes[at..])
+}
+
+/// Whether there are sixty-four bytes, all zero.
+fn begins_with_zeros(bytes: &[u8]) -> bool
+    ensures { IsTrue result → BeginsWithZeros bytes.now }
+{
+    if bytes.len() < 64 {
+        return false;
+    }
+    are_many_zeros(bytes) && are_many_zeros(&bytes[32..])
+}
+
+/// Whether the first thirty-two bytes are zero.
+fn are_many_zeros(bytes: &[u8]) -> bool
+    requires { 32 ≤ length bytes.now }
+    ensures { IsTrue result → AreManyZeros bytes.now }
+{
+    are_sixteen_zeros(bytes) && are_sixteen_zeros(&bytes[16..])
+}
+
+/// Whether the first sixteen bytes are zero.
+fn are_sixteen_zeros(bytes: &[u8]) -> bool
+    requires { 16 ≤ length bytes.now }
+    ensures { IsTrue result → AreSixteenZeros bytes.now }
+{
+    LittleEndian::read_u64(bytes) == 0 && LittleEndian::read_u64(&bytes[8..]) == 0
+}
+
+/// The register after sixty-four zero bytes.
+fn after_many_zeros(register: u32) -> u32
+    ensures { result ≡ after_zeros 512 register }
+{
+    far_entry(0, register >> 24)
+        ^ far_entry(1, register >> 16)
+        ^ far_entry(2, register >> 8)
+        ^ far_entry(3, register)
+}
+
+/// What the lowest byte of `word` leaves after itself and `row + 60` zero bytes behind it.
+fn far_entry(row: usize, word: u32) -> u32
+    requires { row < 4 }
+    ensures { result ≡ after_zeros (8 * (row + 61)) (word % 256) }
+{
+    FAR_TABLES[row][(word & 0xff) as usize]
 }
 
 /// The register after `bytes`, the first eight together.
