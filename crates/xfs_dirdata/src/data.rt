@@ -60,6 +60,9 @@ pub fn read_data(
     read_area(alloc, dir, part(block, 0, COUNT.offset - index))
 }
 
+/// So many entries have room from the first on: most directories of a block have no more.
+const FEW: usize = 32;
+
 /// Reads the entries and unused spans that fill the bytes behind a header.
 fn read_area(alloc: Global, dir: u64, bytes: &[u8]) -> Result<DataBlock, DirDataFault>
     requires long { 64 ≤ length bytes.now }
@@ -73,8 +76,8 @@ fn read_area(alloc: Global, dir: u64, bytes: &[u8]) -> Result<DataBlock, DirData
     ensures none { IfErr result (λ fault. OnUnsound fault (StatesNothing dir bytes.now)) }
 {
     let mut taken = DataBlock {
-        entries: Vec::new(alloc),
-        places: Vec::new(alloc),
+        entries: Vec::with_capacity(alloc, FEW)?,
+        places: Vec::with_capacity(alloc, FEW)?,
         free: Vec::new(alloc),
         bests: [best_at(bytes, 0), best_at(bytes, 1), best_at(bytes, 2)],
     };

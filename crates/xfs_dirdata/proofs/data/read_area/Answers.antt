@@ -14,9 +14,9 @@ loop-at-init c = record {
   most = length c.args.bytes.now;
   enough = omega arith;
   leads = sym (behind-nothing (items (length c.args.bytes.now) c.args.bytes.now 64));
-  entries = c.new.ensures.items;
-  places = c.new-2.ensures.items;
-  free = c.new-3.ensures.items;
+  entries = c.in_ok-with_capacity.ensures.items;
+  places = c.in_ok-with_capacity-2.ensures.items;
+  free = c.new.ensures.items;
   bests = search rules;
 }
 
