@@ -1,6 +1,6 @@
 //! The log of a volume, read from a disk.
 
-ghost use Rattle.std.specs.Prelude.{◌≡◌, ◌≤◌, ◌+◌, ◌/◌, ◌%◌, ◌^◌, ◌<◌, ◌++◌, length, map, IfOk, OnOk};
+ghost use Rattle.std.specs.Prelude.{◌≡◌, ◌≤◌, ◌+◌, ◌/◌, ◌%◌, ◌^◌, ◌<◌, ◌++◌, [], length, map, IfOk, OnOk};
 ghost use Rattle.std.specs.Option.{ForSome};
 ghost use Rattle.xfs_disk.specs.Faults.{HasCause};
 ghost use Rattle.xfs_geom.specs.Volumes.{volume_of};
@@ -66,7 +66,10 @@ fn see_log<D: Disk, L: Ledger>(
     ensures disk { OnlyReads D.size D.holds D.write_faults D.writes D.tells_stops D.moment D.may_leave D.left_since disk.old disk.new }
     ensures reads { D.reads disk.new + steps.old ≤ D.reads disk.old + steps.new }
 {
-    let mut seen = Vec::new(alloc);
+    let mut seen = match room_for_sectors(alloc, g) {
+        Ok(seen) => seen,
+        Err(NoMemory) => return Err(JournalFault::NoMemory),
+    };
     let mut run = [0; RUN_SIZE];
     let mut i = 0;
     while i < g.logblocks as usize {
@@ -81,6 +84,14 @@ fn see_log<D: Disk, L: Ledger>(
         }
         i += count;
     }
+    Ok(seen)
+}
+
+/// An empty list with room for what is seen of all sectors of the log, so that it is never moved while it grows.
+fn room_for_sectors(alloc: Global, g: &Geometry) -> Result<Vec<SectorSeen>, NoMemory>
+    ensures { IfOk result (λ seen. seen.items ≡ []) }
+{
+    let seen = Vec::with_capacity(alloc, SECTORS * g.logblocks as usize)?;
     Ok(seen)
 }
 

@@ -98,7 +98,10 @@ fn read_places<D: Disk, L: Ledger>(
         Ok(size) => size,
         Err(Failed) => return Err(JournalFault::ReadFault),
     };
-    let mut lsns = Vec::new(alloc);
+    let mut lsns = match Vec::with_capacity(alloc, places.len()) {
+        Ok(lsns) => lsns,
+        Err(_) => return Err(JournalFault::NoMemory),
+    };
     let mut held = LastBlock {
         block: None,
         bytes: [0; BLOCK_SIZE],

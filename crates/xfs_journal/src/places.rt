@@ -17,6 +17,9 @@ use xfs_volume::{FileRec, GroupRec};
 /// Where the primary superblock has its number, in bytes.
 const SUPER_LSN: u16 = 240;
 
+/// The slots of a cluster of inodes; each has one place.
+const CLUSTER_SLOTS: usize = 32;
+
 /// Where a log sequence number stands.
 #[derive(Clone, Copy, PartialEq, Eq, PartialOrd, Ord)]
 pub struct LsnPosition {
@@ -40,11 +43,24 @@ pub fn all_places(
     ensures listed { IfOk result (λ places. listed places.items ≡ lsn_places (volume_of g.now) groups.now files.now) }
     ensures inside { IfOk result (λ places. All IsInBlock places.items) }
 {
-    let mut places = Vec::new(alloc);
+    let mut places = room_for_places(alloc, clusters, files)?;
     push(0, SUPER_LSN, &mut places)?;
     push_group_places(g, groups, &mut places)?;
     push_cluster_places(clusters, &mut places)?;
     push_file_places(g, files, &mut places)?;
+    Ok(places)
+}
+
+/// An empty list with room for the places of all slots of clusters, and for some of files, so that it seldom grows.
+fn room_for_places(
+    alloc: Global,
+    clusters: &[u64],
+    files: &[FileRec],
+) -> Result<Vec<LsnPosition>, NoMemory>
+    ensures { IfOk result (λ places. places.items ≡ []) }
+{
+    let slots = CLUSTER_SLOTS.saturating_mul(clusters.len());
+    let places = Vec::with_capacity(alloc, slots.saturating_add(files.len()))?;
     Ok(places)
 }
 

@@ -16,7 +16,7 @@ loop-i-init g c =
     record {
       within = omega arith;
       seen = λ image told.
-          held_from_start (λ block. each_of 8 (seen_in (bytes_of_block image block))) c.args.g.now.log c.args.g.now.logblocks c.new-seen.result.items c.new-seen.ensures.items;
+          held_from_start (λ block. each_of 8 (seen_in (bytes_of_block image block))) c.args.g.now.log c.args.g.now.logblocks c.in-Ok.seen.items c.in-Ok.ensures;
       run = refl;
       later = omega arith;
       disk = reads_none D.size D.holds D.write_faults D.writes D.tells_stops D.moment D.may_leave D.left_since c.args.disk.now;
@@ -42,10 +42,10 @@ loop-i-preserved g c =
           (c.in-Ok-see_blocks.ensures ∙ ap (λ (bytes : List ℕ). c.loop-i.seen.items ++ seen_in_blocks bytes 0 (length bytes / 4096)) shown
           ∙ ap (λ (k : ℕ). c.loop-i.seen.items ++ seen_in_blocks c.read_blocks.new.run 0 k) (whole_blocks n (length c.read_blocks.new.run) long)
           ∙ ap (λ xs. c.loop-i.seen.items ++ xs) (seen_read image (c.args.g.now.log + c.loop-i.i) n c.read_blocks.new.run
-          (subst (λ (k : ℕ). AreBlocksFrom image (c.args.g.now.log + c.loop-i.i) k c.read_blocks.new.run) count (c.in-Ok.ensures.bytes image (before.disk.same_contents ∙ told)))))
+          (subst (λ (k : ℕ). AreBlocksFrom image (c.args.g.now.log + c.loop-i.i) k c.read_blocks.new.run) count (c.in-Ok-read_blocks.ensures.bytes image (before.disk.same_contents ∙ told)))))
           (before.seen image told);
       run = room_kept n c.read_blocks.new.run c.loop-i.run few long before.run;
-      later = let up = before.later in let cause = c.in-Ok.ensures.cause in omega (arith, up, cause);
+      later = let up = before.later in let cause = c.in-Ok-read_blocks.ensures.cause in omega (arith, up, cause);
       disk = reads_on D.size D.holds D.write_faults D.writes D.tells_stops D.moment D.may_leave D.left_since c.args.disk.now c.loop-i.disk c.read_blocks.new.disk before.disk c.read_blocks.ensures.disk;
       reads = steps_on (D.reads c.args.disk.now) (D.reads c.loop-i.disk) (D.reads c.read_blocks.new.disk) c.args.steps.now c.loop-i.steps c.read_blocks.new.steps _ before.reads c.read_blocks.ensures.reads c.read_blocks.ensures.ticks;
     }
@@ -88,10 +88,20 @@ returns g c =
 pub returns-in-Err : goal.returns-in-Err
 returns-in-Err g c =
     let D = g.D.Disk in
+    record {
+      seen = tt;
+      cause = omega arith;
+      disk = reads_none D.size D.holds D.write_faults D.writes D.tells_stops D.moment D.may_leave D.left_since c.args.disk.now;
+      reads = omega arith;
+    }
+
+pub returns-in-Err-read_blocks : goal.returns-in-Err-read_blocks
+returns-in-Err-read_blocks g c =
+    let D = g.D.Disk in
     let before = c.loop-i.invariant in
     record {
       seen = tt;
-      cause = rose_on (D.faults c.args.disk.now) (D.faults c.loop-i.disk) (D.faults c.read_blocks.new.disk) before.later c.in-Err.ensures.cause;
+      cause = rose_on (D.faults c.args.disk.now) (D.faults c.loop-i.disk) (D.faults c.read_blocks.new.disk) before.later c.in-Err-read_blocks.ensures.cause;
       disk = reads_on D.size D.holds D.write_faults D.writes D.tells_stops D.moment D.may_leave D.left_since c.args.disk.now c.loop-i.disk c.read_blocks.new.disk before.disk c.read_blocks.ensures.disk;
       reads = steps_on (D.reads c.args.disk.now) (D.reads c.loop-i.disk) (D.reads c.read_blocks.new.disk) c.args.steps.now c.loop-i.steps c.read_blocks.new.steps _ before.reads c.read_blocks.ensures.reads c.read_blocks.ensures.ticks;
     }
@@ -102,7 +112,7 @@ returns-in-Err-see_blocks g c =
     let before = c.loop-i.invariant in
     record {
       seen = tt;
-      cause = later_on (D.faults c.args.disk.now) (D.faults c.loop-i.disk) (D.faults c.read_blocks.new.disk) before.later c.in-Ok.ensures.cause;
+      cause = later_on (D.faults c.args.disk.now) (D.faults c.loop-i.disk) (D.faults c.read_blocks.new.disk) before.later c.in-Ok-read_blocks.ensures.cause;
       disk = reads_on D.size D.holds D.write_faults D.writes D.tells_stops D.moment D.may_leave D.left_since c.args.disk.now c.loop-i.disk c.read_blocks.new.disk before.disk c.read_blocks.ensures.disk;
       reads = steps_on (D.reads c.args.disk.now) (D.reads c.loop-i.disk) (D.reads c.read_blocks.new.disk) c.args.steps.now c.loop-i.steps c.read_blocks.new.steps _ before.reads c.read_blocks.ensures.reads c.read_blocks.ensures.ticks;
     }

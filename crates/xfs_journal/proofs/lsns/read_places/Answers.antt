@@ -1,4 +1,4 @@
-use Rattle.std.proofs.Common.{◌≡◌, ℕ, ◌+◌, ◌≤◌, ◌<◌, List, [], ◌∷◌, ◌++◌, length, map, drop, get_or, sym, ap, ◌∙◌, arith}
+use Rattle.std.proofs.Common.{ℕ, ◌+◌, ◌<◌, List, [], ◌∷◌, ◌++◌, length, map, drop, get_or, sym, ap, ◌∙◌, arith}
 use Rattle.std.proofs.lemmas.List.{append-nil, drop_more}
 use Rattle.xfs_disk.proofs.Reading.{reads_on}
 use Rattle.xfs_volume.specs.declared.catalogs.BlockLsn.{BlockLsn}
@@ -18,7 +18,7 @@ loop-place-init g c =
     let D = g.D.Disk in
     let read = c.in-Ok.ensures in
     record {
-      lsns = λ image told. ap (λ (xs : List BlockLsn). xs ++ map (lsn_at image) (listed c.args.places.now)) c.new-lsns.ensures.items;
+      lsns = λ image told. ap (λ (xs : List BlockLsn). xs ++ map (lsn_at image) (listed c.args.places.now)) c.in-Ok-with_capacity.ensures.items;
       held = λ image told. tt;
       size = read.count;
       later = read.cause;

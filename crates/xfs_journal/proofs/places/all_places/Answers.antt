@@ -2,10 +2,10 @@ use Rattle.std.proofs.lemmas.Result.{IfOk-from_err}
 use Rattle.xfs_journal.proofs.places.all_places.Goals as goal
 
 pub returns-in_err-push-clause-listed : goal.returns-in_err-push-clause-listed
-returns-in_err-push-clause-listed c = IfOk-from_err c.from_residual.result _ c.from_residual.ensures.0
+returns-in_err-push-clause-listed c = IfOk-from_err c.from_residual-in_err-push.result _ c.from_residual-in_err-push.ensures.0
 
 pub returns-in_err-push-clause-inside : goal.returns-in_err-push-clause-inside
-returns-in_err-push-clause-inside c = IfOk-from_err c.from_residual.result _ c.from_residual.ensures.0
+returns-in_err-push-clause-inside c = IfOk-from_err c.from_residual-in_err-push.result _ c.from_residual-in_err-push.ensures.0
 
 pub returns-in_err-push_group_places-clause-listed : goal.returns-in_err-push_group_places-clause-listed
 returns-in_err-push_group_places-clause-listed c = IfOk-from_err c.from_residual-in_err-push_group_places.result _ c.from_residual-in_err-push_group_places.ensures.0
