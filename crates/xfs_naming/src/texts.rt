@@ -28,7 +28,7 @@ fn are_names(own: &[EntryRec]) -> bool
 fn are_different(alloc: Global, own: &[EntryRec]) -> Result<bool, NoMemory>
     ensures { IfOk result (λ differ. differ ≡ names_differ own.now) }
 {
-    let mut seen = HashSet::new(alloc);
+    let mut seen = HashSet::with_capacity(alloc, own.len())?;
     for entry in own {
         if !seen.insert(entry.name.bytes())? {
             return Ok(false);
