@@ -38,6 +38,9 @@ pub const TREE_BLOCK: u64 = 1 << 62;
 /// The flag of blocks of the attribute fork.
 pub const ATTRIBUTE: u64 = 1 << 63;
 
+/// How many runs a group of few inodes has: its headers, its five trees, its free list and its clusters.
+const GROUP_RUNS: usize = 16;
+
 /// All owned runs of a volume with these groups and files, in no order: blocks of the volume, with their
 /// owners and offset words. The groups are those of the volume in their order; each has lawful records in its
 /// trees and lists, and each file lawful extents.
@@ -57,10 +60,25 @@ pub fn owned_runs(
     ensures inside { IfOk result (λ runs. All (IsOwned (volume_of g.now)) runs.items) }
     ensures groups { IfOk result (λ runs. All (IsOfOneGroup (volume_of g.now)) runs.items) }
 {
-    let mut runs = Vec::new(alloc);
+    let mut runs = room_for_runs(alloc, groups, files)?;
     push_groups(&mut runs, g, groups)?;
     push_run(&mut runs, g.log, g.logblocks as u64, LOG, 0)?;
     push_files(&mut runs, g, files)?;
+    Ok(runs)
+}
+
+/// An empty list with room for what groups mostly own by themselves, for a run of each file and for an eighth more, so that it
+/// seldom grows.
+fn room_for_runs(
+    alloc: Global,
+    groups: &[GroupRec],
+    files: &[FileRec],
+) -> Result<Vec<Run>, NoMemory>
+    ensures { IfOk result (λ runs. runs.items ≡ []) }
+{
+    let shared = GROUP_RUNS.saturating_mul(groups.len());
+    let own = files.len().saturating_add(files.len() / 8);
+    let runs = Vec::with_capacity(alloc, shared.saturating_add(own))?;
     Ok(runs)
 }
 

@@ -12,8 +12,8 @@ use Rattle.xfs_space.proofs.owners.owned_runs.Goals as goal
 pub returns-clause-all : goal.returns-clause-all
 unfolding owned_runs
 returns-clause-all c =
-    joined c.new-runs.result.items c.push_groups.new.runs.items c.push_run.new.runs.items c.push_files.new.runs.items (groups_runs c.args.g.now.agblocks 0 c.args.groups.now)
-    (flat_map (file_runs (volume_of c.args.g.now)) c.args.files.now) (new_run c.args.g.now.log c.args.g.now.logblocks log_owner 0) c.new-runs.ensures.items c.in_ok-push_groups.ensures
+    joined c.in_ok-runs.runs.items c.push_groups.new.runs.items c.push_run.new.runs.items c.push_files.new.runs.items (groups_runs c.args.g.now.agblocks 0 c.args.groups.now)
+    (flat_map (file_runs (volume_of c.args.g.now)) c.args.files.now) (new_run c.args.g.now.log c.args.g.now.logblocks log_owner 0) c.in_ok-runs.ensures c.in_ok-push_groups.ensures
     c.in_ok-push_run.ensures c.in_ok-push_files.ensures.put
 
 pub returns-clause-inside : goal.returns-clause-inside
