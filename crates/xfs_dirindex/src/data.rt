@@ -178,6 +178,7 @@ fn take_pairs(
     ensures { OnOk result (due.new.items ≡ due.old.items ++ due_pairs offset entries.now places.now) }
 {
     let count = entries.len().min(places.len());
+    due.reserve(count)?;
     for i in 0..count {
         due.push(due_pair(offset, &entries[i], places[i]))?;
     }

@@ -99,7 +99,7 @@ pub fn count_stale(pairs: &[Pair]) -> usize
 fn live(alloc: Global, pairs: &[Pair]) -> Result<Vec<Pair>, AllocError>
     ensures { IfOk result (λ live. live.items ≡ filter is_live pairs.now) }
 {
-    let mut live = Vec::new(alloc);
+    let mut live = Vec::with_capacity(alloc, pairs.len())?;
     for pair in pairs {
         if !is_stale(*pair) {
             live.push(*pair)?;

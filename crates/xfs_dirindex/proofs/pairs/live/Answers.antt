@@ -11,7 +11,7 @@ abbrev no_pair : Pair
 no_pair = record { hash = 0; address = 0 }
 
 pub loop-pair-init : goal.loop-pair-init
-loop-pair-init c = c.new-live.ensures.items
+loop-pair-init c = c.in_ok-live.ensures.items
 
 pub loop-pair-preserved : goal.loop-pair-preserved
 loop-pair-preserved c =
