@@ -61,6 +61,7 @@ impl Gathered {
         if self.parent.is_none() {
             self.parent = parent_in(&entries);
         }
+        self.entries.reserve(entries.len())?;
         push_named(entries, &mut self.entries)
     }
 }

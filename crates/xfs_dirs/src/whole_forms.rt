@@ -41,7 +41,7 @@ fn seen_of(alloc: Global, dir: u64, size: u64, kept: &[KeptBlock]) -> Result<Dir
     ensures offsets { IfOk result (λ seen. seen.offsets.items ≡ map (λ (k : KeptBlock). k.offset) kept.now) }
     ensures blocks { IfOk result (λ seen. seen.blocks ≡ map (λ (k : KeptBlock). k.bytes) kept.now) }
 {
-    let mut offsets = Vec::new(alloc);
+    let mut offsets = Vec::with_capacity(alloc, kept.len())?;
     let mut blocks = BlockBank::make(alloc, kept.len())?;
     for i in 0..kept.len() {
         offsets.push(kept[i].offset)?;

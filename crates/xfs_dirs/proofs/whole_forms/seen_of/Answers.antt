@@ -24,10 +24,10 @@ set_more f xs i d made new y inside size were put is =
 
 pub returns-in_err-blocks : goal.returns-in_err-blocks
 returns-in_err-blocks c = record {
-  dir = IfOk-from_err c.from_residual.result _ c.from_residual.ensures.0;
-  size = IfOk-from_err c.from_residual.result _ c.from_residual.ensures.0;
-  offsets = IfOk-from_err c.from_residual.result _ c.from_residual.ensures.0;
-  blocks = IfOk-from_err c.from_residual.result _ c.from_residual.ensures.0;
+  dir = IfOk-from_err c.from_residual-in_err-blocks.result _ c.from_residual-in_err-blocks.ensures.0;
+  size = IfOk-from_err c.from_residual-in_err-blocks.result _ c.from_residual-in_err-blocks.ensures.0;
+  offsets = IfOk-from_err c.from_residual-in_err-blocks.result _ c.from_residual-in_err-blocks.ensures.0;
+  blocks = IfOk-from_err c.from_residual-in_err-blocks.result _ c.from_residual-in_err-blocks.ensures.0;
 }
 
 pub returns-in_err-push : goal.returns-in_err-push
@@ -41,7 +41,7 @@ returns-in_err-push c = record {
 pub loop-i-init : goal.loop-i-init
 loop-i-init c = record {
   ends = refl;
-  offsets = c.new-offsets.ensures.items;
+  offsets = c.in_ok-offsets.ensures.items;
   size = ap length c.in_ok-blocks.ensures ∙ length-replicate (length c.args.kept.now) _;
   blocks = refl;
 }
