@@ -12,13 +12,16 @@ use xfs_volume::ClusterRec;
 /// A block behind all that a chunk can have.
 const END: u64 = 1 << 43;
 
+/// The blocks of a cluster.
+const CLUSTER_BLOCKS: usize = 4;
+
 /// The blocks of clusters, in order.
 pub fn blocks_of(alloc: Global, clusters: &[u64]) -> Result<Vec<u64>, NoMemory>
     requires { All (λ cluster. cluster < 2 ^ 42) clusters.now }
     ensures blocks { IfOk result (λ blocks. blocks.items ≡ flat_map cluster_blocks clusters.now) }
     ensures low { IfOk result (λ blocks. All (λ block. block < 2 ^ 43) blocks.items) }
 {
-    let mut blocks = Vec::new(alloc);
+    let mut blocks = room_for_blocks(alloc, clusters.len())?;
     for cluster in clusters {
         push_blocks(*cluster, END, &mut blocks)?;
     }
@@ -35,10 +38,18 @@ pub fn blocks_of_candidates(
     ensures blocks { IfOk result (λ blocks. blocks.items ≡ flat_map (λ (c : ClusterRec). cluster_blocks c.block) clusters.now) }
     ensures low { IfOk result (λ blocks. All (λ block. block < end) blocks.items) }
 {
-    let mut blocks = Vec::new(alloc);
+    let mut blocks = room_for_blocks(alloc, clusters.len())?;
     for cluster in clusters {
         push_blocks(cluster.block, end, &mut blocks)?;
     }
+    Ok(blocks)
+}
+
+/// An empty list with room for the blocks of so many clusters.
+fn room_for_blocks(alloc: Global, clusters: usize) -> Result<Vec<u64>, NoMemory>
+    ensures { IfOk result (λ blocks. blocks.items ≡ []) }
+{
+    let blocks = Vec::with_capacity(alloc, CLUSTER_BLOCKS.saturating_mul(clusters))?;
     Ok(blocks)
 }
 

@@ -12,6 +12,9 @@ use xfs_disk::NoMemory;
 use xfs_geom::{Geometry, InoRec};
 use xfs_volume::GroupRec;
 
+/// The most clusters that a chunk has.
+const CHUNK_CLUSTERS: usize = 2;
+
 /// The first blocks of the clusters of all chunks.
 pub fn clusters_of(alloc: Global, g: &Geometry, groups: &[GroupRec]) -> Result<Vec<u64>, NoMemory>
     requires few { length groups.now ≤ 512 }
@@ -36,6 +39,7 @@ fn push_chunks(base: u64, chunks: &[InoRec], clusters: &mut Vec<u64>) -> Result<
     ensures more { OnOk result (clusters.new.items ≡ clusters.old.items ++ flat_map (clusters_in base) chunks.now) }
     ensures low { OnOk result (All (λ cluster. cluster < 2 ^ 42) clusters.new.items) }
 {
+    clusters.reserve(CHUNK_CLUSTERS.saturating_mul(chunks.len()))?;
     for chunk in chunks {
         push_chunk(base, chunk, clusters)?;
     }

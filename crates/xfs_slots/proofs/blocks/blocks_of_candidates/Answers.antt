@@ -15,8 +15,8 @@ push_blocks-requires-clause-low c = c.loop-cluster.invariant.low
 
 pub returns-in_err-push_blocks : goal.returns-in_err-push_blocks
 returns-in_err-push_blocks c = record {
-  blocks = IfOk-from_err c.from_residual.result _ c.from_residual.ensures.0;
-  low = IfOk-from_err c.from_residual.result _ c.from_residual.ensures.0;
+  blocks = IfOk-from_err c.from_residual-in_err-push_blocks.result _ c.from_residual-in_err-push_blocks.ensures.0;
+  low = IfOk-from_err c.from_residual-in_err-push_blocks.result _ c.from_residual-in_err-push_blocks.ensures.0;
 }
 
 pub loop-cluster-preserved : goal.loop-cluster-preserved
