@@ -1,6 +1,6 @@
 //! The candidate clusters, read from a disk in rounds, whose slots are judged by several workers.
 
-ghost use Rattle.std.specs.Prelude.{◌≡◌, ◌+◌, ◌<◌, ◌≤◌, ◌++◌, ℕ, length, map, take, IfOk, OnOk};
+ghost use Rattle.std.specs.Prelude.{◌≡◌, ◌+◌, ◌<◌, ◌≤◌, ◌++◌, [], ℕ, length, map, take, IfOk, OnOk};
 ghost use Rattle.std.specs.List.{All, flat_map};
 ghost use Rattle.std.specs.Option.{ForSome};
 ghost use Rattle.xfs_geom.specs.Volumes.{volume_of};
@@ -27,6 +27,9 @@ const PIECE: usize = 64;
 
 /// The most workers whose blocks a round has.
 const WORKERS: u32 = 8;
+
+/// The slots of a block.
+const BLOCK_SLOTS: usize = 8;
 
 /// What is kept of the slots of clusters, and what they give.
 #[derive(Drop)]
@@ -59,7 +62,10 @@ pub fn scan<R: Threads + Sync, D: Disk, G: Gate, L: Ledger>(
         Ok(blocks) => blocks,
         Err(NoMemory) => return Err(PartFault::NoMemory),
     };
-    let mut slots = Vec::new(alloc);
+    let mut slots = match room_for_slots(alloc, blocks.len()) {
+        Ok(slots) => slots,
+        Err(NoMemory) => return Err(PartFault::NoMemory),
+    };
     let mut inodes = Inodes::new(alloc);
     match scan_blocks(
         rt,
@@ -76,6 +82,14 @@ pub fn scan<R: Threads + Sync, D: Disk, G: Gate, L: Ledger>(
         Ok(()) => Ok(ScannedSlots { slots, inodes }),
         Err(fault) => Err(fault),
     }
+}
+
+/// An empty list with room for what is kept of the slots of so many blocks.
+fn room_for_slots(alloc: Global, blocks: usize) -> Result<Vec<SlotFact>, NoMemory>
+    ensures { IfOk result (λ slots. slots.items ≡ []) }
+{
+    let slots = Vec::with_capacity(alloc, BLOCK_SLOTS.saturating_mul(blocks))?;
+    Ok(slots)
 }
 
 /// Reads blocks, each once, in rounds, and takes up their slots.

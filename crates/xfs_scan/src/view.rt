@@ -287,7 +287,7 @@ fn apart(inodes: Inodes, view: Result<Catalog, Finding>) -> Seen
 fn numbers_of(alloc: Global, facts: &[SlotFact]) -> Result<Vec<u64>, NoMemory>
     ensures { IfOk result (λ numbers. numbers.items ≡ map (λ (fact : SlotFact). fact.lsn) facts.now) }
 {
-    let mut numbers = Vec::new(alloc);
+    let mut numbers = Vec::with_capacity(alloc, facts.len())?;
     for fact in facts {
         numbers.push(fact.lsn)?;
     }

@@ -16,6 +16,11 @@ returns-in-Err g c =
     let D = g.D.Disk in
     record { slots = tt; inodes = tt; cause = still _; disk = reads_none D.size D.holds D.write_faults D.writes D.tells_stops D.moment D.may_leave D.left_since c.args.disk.now; reads = still _ }
 
+pub returns-in-Err-room_for_slots : goal.returns-in-Err-room_for_slots
+returns-in-Err-room_for_slots g c =
+    let D = g.D.Disk in
+    record { slots = tt; inodes = tt; cause = still _; disk = reads_none D.size D.holds D.write_faults D.writes D.tells_stops D.moment D.may_leave D.left_since c.args.disk.now; reads = still _ }
+
 pub returns-in-Ok-scan_blocks : goal.returns-in-Ok-scan_blocks
 returns-in-Ok-scan_blocks g c =
     let found = c.in-Ok-scan_blocks.ensures in
@@ -23,7 +28,7 @@ returns-in-Ok-scan_blocks g c =
       slots = λ image told.
           let v = volume_of c.args.g.now in
           c.in-Ok-scan_blocks.ensures.slots image told
-          ∙ ap (λ (before : List SlotFact). before ++ map (slot_fact v image) (inodes_of_blocks v c.deref.result.now)) c.new-slots.ensures.items
+          ∙ ap (λ (before : List SlotFact). before ++ map (slot_fact v image) (inodes_of_blocks v c.deref.result.now)) c.in-Ok-room_for_slots.ensures
           ∙ ap (λ (blocks : List ℕ). map (slot_fact v image) (inodes_of_blocks v blocks)) (c.deref.ensures.value ∙ c.in-Ok.ensures.blocks)
           ∙ ap (map (slot_fact v image)) (inodes_of_candidates v c.args.clusters.now);
       inodes = λ image told.

@@ -12,7 +12,7 @@ made_next f xs i d made new y inside so_far put is =
     put ∙ ap₂ (λ ys z. ys ++ z ∷ []) so_far is ∙ sym (ap (map f) (take_more xs i d inside) ∙ map-append f (take i xs) (get_or xs i d ∷ []))
 
 pub loop-fact-init : goal.loop-fact-init
-loop-fact-init c = c.new-numbers.ensures.items
+loop-fact-init c = c.in_ok-numbers.ensures.items
 
 pub loop-fact-preserved : goal.loop-fact-preserved
 loop-fact-preserved c =
@@ -21,7 +21,7 @@ loop-fact-preserved c =
     c.loop-fact-test.true c.loop-fact.invariant c.in_ok-push.ensures.items refl
 
 pub returns-in_err-push : goal.returns-in_err-push
-returns-in_err-push c = IfOk-from_err c.from_residual.result _ c.from_residual.ensures.0
+returns-in_err-push c = IfOk-from_err c.from_residual-in_err-push.result _ c.from_residual-in_err-push.ensures.0
 
 pub returns : goal.returns
 returns c = c.loop-fact.invariant ∙ ap (map (λ (fact : SlotFact). fact.lsn)) (take_all c.loop-fact.fact-index c.args.facts.now c.loop-fact-test.false)
