@@ -6,6 +6,7 @@ pub mod Rows
 pub mod Sweeps
 pub mod Placed
 pub mod Choosing
+pub mod Bare
 pub mod OneChosen
 pub mod Five
 pub mod Lawful

@@ -23,12 +23,12 @@ clear_then : (a b : ℕ) (named inside clear : Bool) → (a ≡ b → ⊥) → n
 clear_then a b named inside clear other is in_chunk =
     sym (ap₂ (λ (x y : Bool). x || (y && inside && clear)) (ne_eqb a b other) is ∙ ap (λ (z : Bool). z && clear) in_chunk)
 
-pub where_clear : {E : Type 0} (answer : Result Bool E) (holds : Option Image) (clear : Image → Bool) (a b : ℕ) (named inside : Bool) → (a ≡ b → ⊥) → named ≡ true → inside ≡ true
-    → IfOk answer (λ is. ForSome holds (λ image. is ≡ clear image))
-    → IfOk answer (λ is. ForSome holds (λ image. is ≡ ((a == b) || (named && inside && clear image))))
-where_clear (Ok is) holds clear a b named inside other named_is inside_is answered = λ image told.
-    answered image told ∙ clear_then a b named inside (clear image) other named_is inside_is
-where_clear (Err failed) holds clear a b named inside other named_is inside_is answered = tt
+pub where_clear : {E : Type 0} (answer : Result Bool E) (holds : Option Image) (looks : Bool) (bare clear : Image → Bool) (a b : ℕ) (named inside : Bool) → (a ≡ b → ⊥) → named ≡ true → inside ≡ true
+    → IfOk answer (λ is. ForSome holds (λ image. (is ≡ true → looks ≡ false → bare image ≡ true) → is ≡ clear image))
+    → IfOk answer (λ is. ForSome holds (λ image. (is ≡ true → looks ≡ false → bare image ≡ true) → is ≡ ((a == b) || (named && inside && clear image))))
+where_clear (Ok is) holds looks bare clear a b named inside other named_is inside_is answered = λ image told none.
+    answered image told none ∙ clear_then a b named inside (clear image) other named_is inside_is
+where_clear (Err failed) holds looks bare clear a b named inside other named_is inside_is answered = tt
 
 -- what is asked of a cluster that is not the root's
 pub no_root : {E : Type 0} (answer : Result Bool E) (a b : ℕ) → (a ≡ b → ⊥) → IfOk answer (λ is. a ≡ b → is ≡ true)

@@ -1,6 +1,6 @@
 //! All groups of a volume.
 
-ghost use Rattle.std.specs.Prelude.{◌≡◌, ◌+◌, ◌/◌, ◌<◌, ◌≤◌, ◌++◌, ◌∷◌, [], Ok, IfOk, IsTrue};
+ghost use Rattle.std.specs.Prelude.{◌≡◌, ◌+◌, ◌/◌, ◌<◌, ◌≤◌, ◌++◌, ◌∷◌, [], true, false, Ok, IfOk, IsTrue};
 ghost use Rattle.std.specs.Option.{ForSome};
 ghost use Rattle.xfs_geom.specs.Conversions.{group_length};
 ghost use Rattle.xfs_geom.specs.Volumes.{volume_of};
@@ -8,7 +8,7 @@ ghost use Rattle.xfs_disk.specs.Reads.{OnlyReads};
 ghost use Rattle.xfs_image.specs.Candidates.{ClustersAscend, candidates};
 ghost use Rattle.xfs_image.specs.Groups.{group_read, groups_read};
 ghost use Rattle.xfs_image.specs.Reserved.{reserved_in};
-ghost use Rattle.xfs_groups.specs.Answers.{EndBelow, HasGroupsCause, has_root_cluster, lists_of, reserved_lists};
+ghost use Rattle.xfs_groups.specs.Answers.{EndBelow, HasGroupsCause, has_root_cluster, hold_no_object, lists_of, reserved_lists};
 ghost use Rattle.xfs_groups.specs.Private.Chosen.{WithPlaced, candidates_in};
 ghost use Rattle.xfs_groups.specs.Private.Parts.{then_read};
 ghost use Rattle.xfs_groups.specs.Private.ReadGroups.{ArePartsRead};
@@ -50,18 +50,23 @@ pub struct Groups {
 ///
 /// The headers of all groups are read first, then their trees, by kind, those of all groups together; only then are groups looked
 /// through. The blocks of trees are judged in pieces by so many workers, each of which goes through the gate first.
+///
+/// Where a group's trees say in full where its clusters are, no block of these is looked at unless `looks` says so: the clusters are then
+/// those whose slots are read if none of their blocks is sealed as one object, which whoever reads the slots sees for nothing.
 pub fn see_groups<R: Threads + Sync, D: Disk, G: Gate, L: Ledger>(
     rt: &R,
     alloc: Global,
     g: &Geometry,
     disk: &mut D,
+    looks: bool,
     workers: u32,
     gate: &G,
     steps: &mut Steps<L>,
 ) -> Result<Groups, GroupsFault>
     requires inside { g.now.dblocks ≤ D.size disk.old }
     ensures groups { IfOk result (λ seen. ForSome (D.holds disk.old) (λ image. seen.groups ≡ groups_read (volume_of g.now) image)) }
-    ensures clusters { IfOk result (λ seen. ForSome (D.holds disk.old) (λ image. seen.clusters ≡ candidates (volume_of g.now) image)) }
+    ensures clusters { IfOk result (λ seen. ForSome (D.holds disk.old) (λ image.
+        (looks ≡ false → hold_no_object (volume_of g.now) image seen.clusters ≡ true) → seen.clusters ≡ candidates (volume_of g.now) image)) }
     ensures trees { IfOk result (λ seen. ForSome (D.holds disk.old) (λ image. lists_of seen.trees ≡ reserved_lists (volume_of g.now) image)) }
     ensures ascend { IfOk result (λ seen. ClustersAscend 0 seen.clusters) }
     ensures low { IfOk result (λ seen. EndBelow g.now.dblocks seen.clusters) }
@@ -82,7 +87,7 @@ pub fn see_groups<R: Threads + Sync, D: Disk, G: Gate, L: Ledger>(
     for ag in 0..g.agcount {
         let heads = &all_heads[ag as usize];
         let trees = forests.next(heads);
-        all = match add_group(alloc, g, disk, ag, heads, trees, all, steps) {
+        all = match add_group(alloc, g, disk, ag, heads, trees, all, looks, steps) {
             Ok(grown) => grown,
             Err(fault) => return Err(fault),
         };
@@ -112,20 +117,22 @@ fn add_group<D: Disk, L: Ledger>(
     heads: &Heads,
     trees: Trees,
     all: Groups,
+    looks: bool,
     steps: &mut Steps<L>,
 ) -> Result<Groups, GroupsFault>
     requires group { ag < g.now.agcount }
     requires inside { g.now.dblocks ≤ D.size disk.old }
     requires parts { ForSome (D.holds disk.old) (λ image. ArePartsRead (volume_of g.now) image ag heads.now trees) }
     ensures groups { IfOk result (λ new. ForSome (D.holds disk.old) (λ image. new.groups ≡ then_read all.groups (group_read (volume_of g.now) image ag))) }
-    ensures clusters { IfOk result (λ new. ForSome (D.holds disk.old) (λ image. new.clusters ≡ all.clusters ++ candidates_in (volume_of g.now) image ag)) }
+    ensures clusters { IfOk result (λ new. ForSome (D.holds disk.old) (λ image.
+        (looks ≡ false → hold_no_object (volume_of g.now) image new.clusters ≡ true) → new.clusters ≡ all.clusters ++ candidates_in (volume_of g.now) image ag)) }
     ensures trees { IfOk result (λ new. ForSome (D.holds disk.old) (λ image. lists_of new.trees ≡ lists_of all.trees ++ reserved_in (volume_of g.now) image ag ∷ [])) }
     ensures placed { IfOk result (λ new. WithPlaced (volume_of g.now) ag (group_length (volume_of g.now) ag / 4) all.clusters new.clusters) }
     ensures cause { HasGroupsCause (D.faults disk.old) (D.faults disk.new) result }
     ensures disk { OnlyReads D.size D.holds D.write_faults D.writes D.tells_stops D.moment D.may_leave D.left_since disk.old disk.new }
     ensures reads { D.reads disk.new + steps.old ≤ D.reads disk.old + steps.new }
 {
-    let seen = match see_group(alloc, g, disk, ag, heads, trees, steps) {
+    let seen = match see_group(alloc, g, disk, ag, heads, trees, looks, steps) {
         Ok(seen) => seen,
         Err(fault) => return Err(fault),
     };

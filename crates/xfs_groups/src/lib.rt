@@ -7,7 +7,7 @@
 //! `xfs_scan` begins so:
 //!
 //! ```text
-//! let seen = match see_groups(rt, alloc, g, disk, workers, gate, steps) { .. };
+//! let seen = match see_groups(rt, alloc, g, disk, looks, workers, gate, steps) { .. };
 //! // seen.groups: each group, or the first part that does not read; seen.clusters; seen.trees
 //! ```
 #![tactic(auto)]
@@ -29,3 +29,4 @@ mod trees;
 
 pub use faults::GroupsFault;
 pub use groups::{GroupTrees, Groups, see_groups};
+pub use looking::is_slot_block;

@@ -108,6 +108,14 @@ pub(crate) fn look_whole<D: Disk, L: Ledger>(
     }
 }
 
+/// Whether the magic number of a slot of an inode stands at the start of these bytes of a block.
+pub fn is_slot_block(bytes: &[u8]) -> bool
+    requires { 4 ≤ length bytes.now }
+    ensures { result ≡ begins_as_slot bytes.now }
+{
+    get32(bytes, 0) >> 16 == SLOT_MAGIC
+}
+
 /// Whether the magic number of a slot of an inode stands at the start of a block: no object that fills a block begins so.
 fn begins_as_slot<D: Disk, L: Ledger>(
     disk: &mut D,
@@ -123,7 +131,7 @@ fn begins_as_slot<D: Disk, L: Ledger>(
     let mut front = [0; 4];
     steps.tick();
     match disk.read_front(place, &mut front) {
-        Ok(()) => Ok(get32(&front, 0) >> 16 == SLOT_MAGIC),
+        Ok(()) => Ok(is_slot_block(&front)),
         Err(Failed) => Err(Failed),
     }
 }

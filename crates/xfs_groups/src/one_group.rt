@@ -1,6 +1,6 @@
 //! One group of a volume.
 
-ghost use Rattle.std.specs.Prelude.{◌≡◌, ◌^◌, ◌/◌, ◌<◌, ◌≤◌, ◌||◌, ℕ, ◌+◌, IfOk, IfSome};
+ghost use Rattle.std.specs.Prelude.{◌≡◌, ◌^◌, ◌/◌, ◌<◌, ◌≤◌, ◌||◌, ℕ, ◌+◌, true, false, IfOk, IfSome};
 ghost use Rattle.std.specs.List.{All};
 ghost use Rattle.std.specs.Option.{ForSome};
 ghost use Rattle.xfs_disk.specs.Lists.{is_among};
@@ -11,7 +11,7 @@ ghost use Rattle.xfs_image.specs.Clusters.{both_name};
 ghost use Rattle.xfs_image.specs.Groups.{group_read, head_block};
 ghost use Rattle.xfs_image.specs.Reserved.{is_of_named, is_of_tree, reserved_in};
 ghost use Rattle.xfs_disk.specs.Reads.{OnlyReads};
-ghost use Rattle.xfs_groups.specs.Answers.{HasGroupsCause};
+ghost use Rattle.xfs_groups.specs.Answers.{HasGroupsCause, hold_no_object};
 ghost use Rattle.xfs_groups.specs.Private.Chosen.{ClustersPlaced, IsToldOfGroup, candidates_in, chosen, withheld};
 ghost use Rattle.xfs_groups.specs.Named.{AreOwnersApart, is_named};
 ghost use Rattle.xfs_groups.specs.Private.ReadGroups.{ArePartsRead, IsGroupTold};
@@ -73,13 +73,15 @@ pub(crate) fn see_group<D: Disk, L: Ledger>(
     ag: u32,
     heads: &Heads,
     trees: Trees,
+    looks: bool,
     steps: &mut Steps<L>,
 ) -> Result<GroupSeen, GroupsFault>
     requires group { ag < g.now.agcount }
     requires inside { g.now.dblocks ≤ D.size disk.old }
     requires parts { ForSome (D.holds disk.old) (λ image. ArePartsRead (volume_of g.now) image ag heads.now trees) }
     ensures record { IfOk result (λ seen. ForSome (D.holds disk.old) (λ image. seen.record ≡ group_read (volume_of g.now) image ag)) }
-    ensures clusters { IfOk result (λ seen. ForSome (D.holds disk.old) (λ image. seen.clusters.items ≡ candidates_in (volume_of g.now) image ag)) }
+    ensures clusters { IfOk result (λ seen. ForSome (D.holds disk.old) (λ image.
+        (looks ≡ false → hold_no_object (volume_of g.now) image seen.clusters.items ≡ true) → seen.clusters.items ≡ candidates_in (volume_of g.now) image ag)) }
     ensures reserved { IfOk result (λ seen. ForSome (D.holds disk.old) (λ image. seen.reserved.items ≡ reserved_in (volume_of g.now) image ag)) }
     ensures placed { IfOk result (λ seen. ClustersPlaced (volume_of g.now) ag (group_length (volume_of g.now) ag / 4) seen.clusters.items) }
     ensures cause { HasGroupsCause (D.faults disk.old) (D.faults disk.new) result }
@@ -90,7 +92,7 @@ pub(crate) fn see_group<D: Disk, L: Ledger>(
         Ok(group) => group,
         Err(NoMemory) => return Err(GroupsFault::NoMemory),
     };
-    match look_through(alloc, g, disk, ag, group.told(), steps) {
+    match look_through(alloc, g, disk, ag, group.told(), looks, steps) {
         Ok(found) => Ok(seen(group, found)),
         Err(fault) => Err(fault),
     }
@@ -161,12 +163,14 @@ fn look_through<D: Disk, L: Ledger>(
     disk: &mut D,
     ag: u32,
     told: &Told,
+    looks: bool,
     steps: &mut Steps<L>,
 ) -> Result<ScannedGroup, GroupsFault>
     requires group { ag < g.now.agcount }
     requires inside { g.now.dblocks ≤ D.size disk.old }
     ensures chosen { IfOk result (λ found. ForSome (D.holds disk.old) (λ image.
-        found.clusters.items ≡ chosen (volume_of g.now) image told.now.trusted told.now.named ag (group_length (volume_of g.now) ag / 4))) }
+        (looks ≡ false → hold_no_object (volume_of g.now) image found.clusters.items ≡ true)
+        → found.clusters.items ≡ chosen (volume_of g.now) image told.now.trusted told.now.named ag (group_length (volume_of g.now) ag / 4))) }
     ensures withheld { IfOk result (λ found. ForSome (D.holds disk.old) (λ image.
         found.reserved.items ≡ withheld (volume_of g.now) image told.now.trusted told.now.held (head_block (volume_of g.now) ag) (group_length (volume_of g.now) ag))) }
     ensures placed { IfOk result (λ found. ClustersPlaced (volume_of g.now) ag (group_length (volume_of g.now) ag / 4) found.clusters.items) }
@@ -184,7 +188,7 @@ fn look_through<D: Disk, L: Ledger>(
         Ok(reserved) => reserved,
         Err(NoMemory) => return Err(GroupsFault::NoMemory),
     };
-    match recorded_clusters(alloc, g, disk, ag, &told.named, steps) {
+    match recorded_clusters(alloc, g, disk, ag, &told.named, looks, steps) {
         Ok(clusters) => Ok(ScannedGroup { clusters, reserved }),
         Err(fault) => Err(fault),
     }

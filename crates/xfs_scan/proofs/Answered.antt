@@ -12,7 +12,7 @@ use Rattle.xfs_scan.specs.declared.faults.ScanFault.TheVariants as faults
 use Rattle.xfs_scan.proofs.Counts.{later, rose_on}
 
 -- a cause that is seen from an earlier count on
-fault_caused : (a b c : ℕ) (fault : ScanFault) → a ≤ b → IsScanCause b c fault → IsScanCause a c fault
+pub fault_caused : (a b c : ℕ) (fault : ScanFault) → a ≤ b → IsScanCause b c fault → IsScanCause a c fault
 fault_caused a b c faults.ReadFault up cause = rose_on a b c up cause
 fault_caused a b c (faults.TooLarge what count) up cause = later a b c up cause
 fault_caused a b c (faults.UnsupportedFile ino what) up cause = later a b c up cause

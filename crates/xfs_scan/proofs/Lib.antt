@@ -1,4 +1,5 @@
 mod Answered
+mod Begun
 mod Counting
 mod Refusing
 mod Rounds

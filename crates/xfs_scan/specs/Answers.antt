@@ -1,5 +1,5 @@
 -- Why no evidence is gathered.
-use Rattle.std.specs.Prelude.{◌≡◌, ℕ, ◌≤◌, Option, Some, None, MatchOption, Result, MatchResult, ⊤}
+use Rattle.std.specs.Prelude.{◌≡◌, ℕ, ◌≤◌, Option, Some, None, MatchOption, IfSome, Result, MatchResult, ⊤}
 use Rattle.xfs_disk.specs.Faults.{Rose}
 use Rattle.xfs_journal.specs.declared.faults.JournalFault.{JournalFault}
 use Rattle.xfs_journal.specs.declared.faults.JournalFault.TheVariants as logs
@@ -27,6 +27,10 @@ IsRefusal due faults.NoMemory = ⊤
 
 abbrev pub HasRefused : {T : Type 0} → Option ScanFault → Result T ScanFault → Type 0
 HasRefused due result = MatchResult result (λ _. due ≡ None) (IsRefusal due)
+
+-- the same, where nothing may be found and then nothing is said
+abbrev pub HasRefusedFound : {T : Type 0} → Option ScanFault → Result (Option T) ScanFault → Type 0
+HasRefusedFound due result = MatchResult result (λ found. IfSome found (λ _. due ≡ None)) (IsRefusal due)
 
 -- the fault of a part, as the answer of the whole
 abbrev pub scan_fault_of : PartFault → ScanFault

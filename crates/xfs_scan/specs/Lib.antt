@@ -1,4 +1,5 @@
 pub mod Answers
+pub mod Begun
 pub mod Refused
 pub mod Evidence
 pub use Rattle.xfs_slots.specs as xfs_slots

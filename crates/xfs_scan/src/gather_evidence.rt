@@ -1,13 +1,13 @@
 //! The evidence of a volume, gathered from a disk.
 
-ghost use Rattle.std.specs.Prelude.{◌≡◌, ◌+◌, ◌≤◌, None, IfOk};
+ghost use Rattle.std.specs.Prelude.{◌≡◌, ◌+◌, ◌*◌, ◌^◌, ◌≤◌, true, length, None, IfOk, IfSome};
 ghost use Rattle.std.specs.Option.{ForSome};
 ghost use Rattle.xfs_geom.specs.Volumes.{volume_of};
 ghost use Rattle.xfs_disk.specs.Reads.{OnlyReads};
-ghost use Rattle.xfs_groups.specs.Answers.{EndBelow};
+ghost use Rattle.xfs_groups.specs.Answers.{EndBelow, hold_no_object};
 ghost use Rattle.xfs_image.specs.Claims.{candidate_inodes};
 ghost use Rattle.xfs_image.specs.View.{log_of};
-ghost use Rattle.xfs_scan.specs.Answers.{HasRefused, HasScanCause, IsLateRefusal, log_fault_of};
+ghost use Rattle.xfs_scan.specs.Answers.{HasRefused, HasRefusedFound, HasScanCause, IsLateRefusal, log_fault_of};
 ghost use Rattle.xfs_scan.specs.Evidence.{AreSeen, IsEvidence, joined_parts};
 ghost use Rattle.xfs_slots.specs.Facts.{slot_facts};
 ghost use Rattle.xfs_slots.specs.Gathered.{gathered, held_in};
@@ -33,6 +33,9 @@ use xfs_volume::{Blocks, ClusterRec, Records};
 
 /// The evidence of the volume that a disk holds. `ReadFault` only where a read failed. Each block that is read counts as a
 /// step, also where the read fails. The work is cut into pieces for so many workers, each of which goes through the gate first.
+///
+/// Blocks of clusters that their group names in full are looked at where their slots are read, and by themselves only where one of them
+/// does not begin as a slot does: then all is read once more.
 pub fn gather<R: Threads + Sync, D: Disk, G: Gate, L: Ledger>(
     rt: &R,
     alloc: Global,
@@ -49,7 +52,33 @@ pub fn gather<R: Threads + Sync, D: Disk, G: Gate, L: Ledger>(
     ensures disk { OnlyReads D.size D.holds D.write_faults D.writes D.tells_stops D.moment D.may_leave D.left_since disk.old disk.new }
     ensures reads { D.reads disk.new + steps.old ≤ D.reads disk.old + steps.new }
 {
-    let seen = match see_groups(rt, alloc, g, disk, workers, gate, steps) {
+    match gather_named(rt, alloc, g, disk, workers, gate, steps) {
+        Ok(found) => match found {
+            Some(evidence) => Ok(evidence),
+            None => gather_looked(rt, alloc, g, disk, workers, gate, steps),
+        },
+        Err(fault) => Err(fault),
+    }
+}
+
+/// The evidence of a volume each of whose candidate clusters was looked at.
+fn gather_looked<R: Threads + Sync, D: Disk, G: Gate, L: Ledger>(
+    rt: &R,
+    alloc: Global,
+    g: &Geometry,
+    disk: &mut D,
+    workers: u32,
+    gate: &G,
+    steps: &mut Steps<L>,
+) -> Result<Evidence, ScanFault>
+    requires inside { g.now.dblocks ≤ D.size disk.old }
+    ensures evidence { IfOk result (λ e. ForSome (D.holds disk.old) (λ image. IsEvidence g.now image e)) }
+    ensures refused { ForSome (D.holds disk.old) (λ image. HasRefused (refused (volume_of g.now) image) result) }
+    ensures cause { HasScanCause (D.faults disk.old) (D.faults disk.new) result }
+    ensures disk { OnlyReads D.size D.holds D.write_faults D.writes D.tells_stops D.moment D.may_leave D.left_since disk.old disk.new }
+    ensures reads { D.reads disk.new + steps.old ≤ D.reads disk.old + steps.new }
+{
+    let seen = match see_groups(rt, alloc, g, disk, true, workers, gate, steps) {
         Ok(seen) => seen,
         Err(GroupsFault::ReadFault) => return Err(ScanFault::ReadFault),
         Err(GroupsFault::NoMemory) => return Err(ScanFault::NoMemory),
@@ -63,6 +92,83 @@ pub fn gather<R: Threads + Sync, D: Disk, G: Gate, L: Ledger>(
         });
     }
     gather_files(rt, alloc, g, disk, seen, workers, gate, steps)
+}
+
+/// The evidence of a volume, found without a look at the clusters that its groups name in full; none where that does not do.
+fn gather_named<R: Threads + Sync, D: Disk, G: Gate, L: Ledger>(
+    rt: &R,
+    alloc: Global,
+    g: &Geometry,
+    disk: &mut D,
+    workers: u32,
+    gate: &G,
+    steps: &mut Steps<L>,
+) -> Result<Option<Evidence>, ScanFault>
+    requires inside { g.now.dblocks ≤ D.size disk.old }
+    ensures evidence { IfOk result (λ found. IfSome found (λ e. ForSome (D.holds disk.old) (λ image. IsEvidence g.now image e))) }
+    ensures refused { ForSome (D.holds disk.old) (λ image. HasRefusedFound (refused (volume_of g.now) image) result) }
+    ensures cause { HasScanCause (D.faults disk.old) (D.faults disk.new) result }
+    ensures disk { OnlyReads D.size D.holds D.write_faults D.writes D.tells_stops D.moment D.may_leave D.left_since disk.old disk.new }
+    ensures reads { D.reads disk.new + steps.old ≤ D.reads disk.old + steps.new }
+{
+    let seen = match see_groups(rt, alloc, g, disk, false, workers, gate, steps) {
+        Ok(seen) => seen,
+        Err(GroupsFault::ReadFault) => return Err(ScanFault::ReadFault),
+        Err(GroupsFault::NoMemory) => return Err(ScanFault::NoMemory),
+    };
+    if count_inodes(g, seen.clusters.as_slice()) > MOST_INODES {
+        drop(seen);
+        return Ok(None);
+    }
+    gather_begun(rt, alloc, g, disk, seen, workers, gate, steps)
+}
+
+/// The same of clusters that are not too many, where each of their blocks begins as a slot does.
+fn gather_begun<R: Threads + Sync, D: Disk, G: Gate, L: Ledger>(
+    rt: &R,
+    alloc: Global,
+    g: &Geometry,
+    disk: &mut D,
+    seen: Groups,
+    workers: u32,
+    gate: &G,
+    steps: &mut Steps<L>,
+) -> Result<Option<Evidence>, ScanFault>
+    requires inside { g.now.dblocks ≤ D.size disk.old }
+    requires seen { ForSome (D.holds disk.old) (λ image. hold_no_object (volume_of g.now) image seen.clusters ≡ true → AreSeen g.now image seen) }
+    requires low { EndBelow g.now.dblocks seen.clusters }
+    requires few { 32 * length seen.clusters ≤ 2 ^ 21 }
+    ensures evidence { IfOk result (λ found. IfSome found (λ e. ForSome (D.holds disk.old) (λ image. IsEvidence g.now image e))) }
+    ensures refused { ForSome (D.holds disk.old) (λ image. HasRefusedFound (refused (volume_of g.now) image) result) }
+    ensures cause { HasScanCause (D.faults disk.old) (D.faults disk.new) result }
+    ensures disk { OnlyReads D.size D.holds D.write_faults D.writes D.tells_stops D.moment D.may_leave D.left_since disk.old disk.new }
+    ensures reads { D.reads disk.new + steps.old ≤ D.reads disk.old + steps.new }
+{
+    let scanned = match scan(
+        rt,
+        alloc,
+        g,
+        disk,
+        seen.clusters.as_slice(),
+        workers,
+        gate,
+        steps,
+    ) {
+        Ok(scanned) => scanned,
+        Err(error) => {
+            drop(seen);
+            return Err(answer(error));
+        }
+    };
+    if !scanned.begun {
+        drop(seen);
+        drop(scanned);
+        return Ok(None);
+    }
+    match gather_scanned(alloc, g, disk, seen, scanned, steps) {
+        Ok(evidence) => Ok(Some(evidence)),
+        Err(fault) => Err(fault),
+    }
 }
 
 /// The evidence of a volume whose clusters are not too many.
@@ -230,7 +336,7 @@ fn gather_prepared<D: Disk, L: Ledger>(
         clusters,
         trees,
     } = seen;
-    let ScannedSlots { slots, inodes } = scanned;
+    let ScannedSlots { slots, inodes, .. } = scanned;
     let Prepared { bare, log } = prepared;
     match see_view(
         alloc,

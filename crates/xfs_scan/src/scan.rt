@@ -1,13 +1,16 @@
 //! The candidate clusters, read from a disk in rounds, whose slots are judged by several workers.
 
-ghost use Rattle.std.specs.Prelude.{◌≡◌, ◌+◌, ◌<◌, ◌≤◌, ◌++◌, [], ℕ, length, map, take, IfOk, OnOk};
-ghost use Rattle.std.specs.List.{All, flat_map};
+ghost use Rattle.std.specs.Prelude.{◌≡◌, ◌+◌, ◌<◌, ◌≤◌, ◌++◌, [], ℕ, true, length, map, take, IfOk, OnOk};
+ghost use Rattle.std.specs.List.{All, flat_map, list_all};
 ghost use Rattle.std.specs.Option.{ForSome};
 ghost use Rattle.xfs_geom.specs.Volumes.{volume_of};
 ghost use Rattle.xfs_disk.specs.Reads.{OnlyReads};
+ghost use Rattle.xfs_word.specs.Seal.{begins_as_slot};
+ghost use Rattle.xfs_collections.specs.Bank.{blocks_at};
 ghost use Rattle.xfs_volume.specs.declared.clusters.ClusterRec.{ClusterRec};
-ghost use Rattle.xfs_image.specs.Slots.{cluster_inodes};
+ghost use Rattle.xfs_image.specs.Slots.{cluster_blocks, cluster_inodes};
 ghost use Rattle.xfs_groups.specs.Answers.{EndBelow};
+ghost use Rattle.xfs_scan.specs.Begun.{all_begin};
 ghost use Rattle.xfs_slots.specs.Causes.{HasReadCause};
 ghost use Rattle.xfs_slots.specs.Facts.{slot_fact};
 ghost use Rattle.xfs_slots.specs.Gathered.{gathered, held_in, inodes_of_blocks, gathered_both};
@@ -18,6 +21,7 @@ use std::thread::Threads;
 use xfs_collections::{BlockBank, Steps};
 use xfs_disk::{Disk, Gate, NoMemory};
 use xfs_geom::Geometry;
+use xfs_groups::is_slot_block;
 use xfs_rounds::{RoundFault, SlotFact, judge_round, reload_round, settle_round};
 use xfs_slots::{Inodes, PartFault, blocks_of_candidates, take_round};
 use xfs_volume::ClusterRec;
@@ -36,6 +40,8 @@ const BLOCK_SLOTS: usize = 8;
 pub struct ScannedSlots {
     pub slots: Vec<SlotFact>,
     pub inodes: Inodes,
+    /// Whether each block of the clusters begins as a slot does, so that none is sealed as one object.
+    pub begun: bool,
 }
 
 /// Reads the blocks of clusters, each once, and takes up their slots. They are read in rounds, in order; the slots of a round are
@@ -54,6 +60,7 @@ pub fn scan<R: Threads + Sync, D: Disk, G: Gate, L: Ledger>(
     requires volume { EndBelow g.now.dblocks clusters.now }
     ensures slots { IfOk result (λ scanned. ForSome (D.holds disk.old) (λ image. scanned.slots.items ≡ map (slot_fact (volume_of g.now) image) (flat_map (λ (c : ClusterRec). cluster_inodes (volume_of g.now) c.block) clusters.now))) }
     ensures inodes { IfOk result (λ scanned. ForSome (D.holds disk.old) (λ image. held_in scanned.inodes ≡ gathered (volume_of g.now) image (flat_map (λ (c : ClusterRec). cluster_inodes (volume_of g.now) c.block) clusters.now))) }
+    ensures begun { IfOk result (λ scanned. scanned.begun ≡ true → ForSome (D.holds disk.old) (λ image. all_begin image (flat_map (λ (c : ClusterRec). cluster_blocks c.block) clusters.now) ≡ true)) }
     ensures cause { HasReadCause (D.faults disk.old) (D.faults disk.new) result }
     ensures disk { OnlyReads D.size D.holds D.write_faults D.writes D.tells_stops D.moment D.may_leave D.left_since disk.old disk.new }
     ensures reads { D.reads disk.new + steps.old ≤ D.reads disk.old + steps.new }
@@ -79,7 +86,11 @@ pub fn scan<R: Threads + Sync, D: Disk, G: Gate, L: Ledger>(
         &mut inodes,
         steps,
     ) {
-        Ok(()) => Ok(ScannedSlots { slots, inodes }),
+        Ok(begun) => Ok(ScannedSlots {
+            slots,
+            inodes,
+            begun,
+        }),
         Err(fault) => Err(fault),
     }
 }
@@ -92,7 +103,7 @@ fn room_for_slots(alloc: Global, blocks: usize) -> Result<Vec<SlotFact>, NoMemor
     Ok(slots)
 }
 
-/// Reads blocks, each once, in rounds, and takes up their slots.
+/// Reads blocks, each once, in rounds, and takes up their slots. Says whether each begins as a slot does.
 fn scan_blocks<R: Threads + Sync, D: Disk, G: Gate, L: Ledger>(
     rt: &R,
     alloc: Global,
@@ -104,11 +115,12 @@ fn scan_blocks<R: Threads + Sync, D: Disk, G: Gate, L: Ledger>(
     slots: &mut Vec<SlotFact>,
     inodes: &mut Inodes,
     steps: &mut Steps<L>,
-) -> Result<(), PartFault>
+) -> Result<bool, PartFault>
     requires inside { g.now.dblocks ≤ D.size disk.old }
     requires volume { All (λ block. block < g.now.dblocks) blocks.now }
     ensures slots { OnOk result (ForSome (D.holds disk.old) (λ image. slots.new.items ≡ slots.old.items ++ map (slot_fact (volume_of g.now) image) (inodes_of_blocks (volume_of g.now) blocks.now))) }
     ensures inodes { OnOk result (ForSome (D.holds disk.old) (λ image. held_in inodes.new ≡ gathered_both (held_in inodes.old) (gathered (volume_of g.now) image (inodes_of_blocks (volume_of g.now) blocks.now)))) }
+    ensures begun { IfOk result (λ begun. begun ≡ true → ForSome (D.holds disk.old) (λ image. all_begin image blocks.now ≡ true)) }
     ensures cause { HasReadCause (D.faults disk.old) (D.faults disk.new) result }
     ensures disk { OnlyReads D.size D.holds D.write_faults D.writes D.tells_stops D.moment D.may_leave D.left_since disk.old disk.new }
     ensures reads { D.reads disk.new + steps.old ≤ D.reads disk.old + steps.new }
@@ -118,6 +130,7 @@ fn scan_blocks<R: Threads + Sync, D: Disk, G: Gate, L: Ledger>(
         Ok(bank) => bank,
         Err(NoMemory) => return Err(PartFault::NoMemory),
     };
+    let mut begun = true;
     let mut start = 0;
     while start < blocks.len() {
         let round = round_from(blocks, start, size);
@@ -125,13 +138,34 @@ fn scan_blocks<R: Threads + Sync, D: Disk, G: Gate, L: Ledger>(
             rt, alloc, g, disk, round, bank, workers, gate, slots, inodes, steps,
         ) {
             Ok(used) => {
+                begun = stays_begun(begun, &used);
                 bank = used;
                 start += round.len();
             }
             Err(fault) => return Err(fault),
         }
     }
-    Ok(())
+    Ok(begun)
+}
+
+/// Whether each block of a bank begins as a slot does, and those before it do.
+fn stays_begun(begun: bool, bank: &BlockBank) -> bool
+    ensures before { result ≡ true → begun ≡ true }
+    ensures here { result ≡ true → list_all begins_as_slot bank.now ≡ true }
+{
+    begun && are_begun(bank)
+}
+
+/// Whether each block of a bank begins as a slot does.
+fn are_begun(bank: &BlockBank) -> bool
+    ensures { result ≡ list_all begins_as_slot bank.now }
+{
+    for i in 0..bank.len() {
+        if !is_slot_block(bank.view(i)) {
+            return false;
+        }
+    }
+    true
 }
 
 /// How many blocks a round has at most.
@@ -155,7 +189,7 @@ fn round_from(blocks: &[u64], start: usize, size: usize) -> &[u64]
 }
 
 /// Reads the blocks of a round, into the bank of the one before where it has as many blocks, judges their slots, and takes them up.
-/// Gives the bank back.
+/// Gives the bank back, with the blocks of the round.
 fn scan_round<R: Threads + Sync, D: Disk, G: Gate, L: Ledger>(
     rt: &R,
     alloc: Global,
@@ -173,6 +207,7 @@ fn scan_round<R: Threads + Sync, D: Disk, G: Gate, L: Ledger>(
     requires volume { All (λ block. block < g.now.dblocks) round.now }
     ensures slots { OnOk result (ForSome (D.holds disk.old) (λ image. slots.new.items ≡ slots.old.items ++ map (slot_fact (volume_of g.now) image) (inodes_of_blocks (volume_of g.now) round.now))) }
     ensures inodes { OnOk result (ForSome (D.holds disk.old) (λ image. held_in inodes.new ≡ gathered_both (held_in inodes.old) (gathered (volume_of g.now) image (inodes_of_blocks (volume_of g.now) round.now)))) }
+    ensures bank { IfOk result (λ bank. ForSome (D.holds disk.old) (λ image. bank ≡ blocks_at image round.now)) }
     ensures cause { HasReadCause (D.faults disk.old) (D.faults disk.new) result }
     ensures disk { OnlyReads D.size D.holds D.write_faults D.writes D.tells_stops D.moment D.may_leave D.left_since disk.old disk.new }
     ensures reads { D.reads disk.new + steps.old ≤ D.reads disk.old + steps.new }

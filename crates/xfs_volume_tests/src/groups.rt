@@ -137,7 +137,16 @@ pub fn see<R: Threads + Sync, D: Disk, L: Ledger>(
     requires inside { 2048 ≤ D.size disk.old }
 {
     let mut steps = Steps::<L>::from_blank(blank);
-    see_groups(rt, alloc, &volume(IDENTIFIER), disk, 2, &NoGate, &mut steps)
+    see_groups(
+        rt,
+        alloc,
+        &volume(IDENTIFIER),
+        disk,
+        true,
+        2,
+        &NoGate,
+        &mut steps,
+    )
 }
 
 /// Tests that the groups are found to be as the rest of a line says.

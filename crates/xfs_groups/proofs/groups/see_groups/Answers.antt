@@ -9,6 +9,7 @@ use Rattle.xfs_groups.specs.Answers.{lists_of}
 use Rattle.xfs_groups.specs.Private.Chosen.{candidates_in}
 use Rattle.xfs_groups.specs.Private.Left.{AreLeft}
 use Rattle.xfs_groups.specs.declared.heads.Heads.{Heads}
+use Rattle.xfs_groups.proofs.Bare.{bare_before}
 use Rattle.xfs_groups.proofs.Causes.{caused_on, later}
 use Rattle.xfs_groups.proofs.Grouped.{all_candidates, groups_more, lists_more, none_placed, placed_on, values_more, GroupsPlaced}
 use Rattle.xfs_groups.proofs.Lengths.{root_place}
@@ -56,7 +57,7 @@ loop-ag-init g c =
           (subst (λ (k : ℕ). AreLeft (volume_of c.args.g.now) image c.deref.result.now 0 k c.in-Ok-read_forests.forests) all
           (c.in-Ok-read_forests.ensures.left image (c.in-Ok.ensures.disk.same_contents ∙ told)));
       read = λ image told. c.no_groups-all.ensures.groups;
-      chosen_so = λ image told. c.no_groups-all.ensures.clusters;
+      chosen_so = λ image told none. c.no_groups-all.ensures.clusters;
       held_so = λ image told. ap lists_of c.no_groups-all.ensures.trees;
       placed = subst (GroupsPlaced c.args.g.now 0) (sym c.no_groups-all.ensures.clusters) (none_placed c.args.g.now);
       later = later (D.faults c.args.disk.now) (D.faults c.read_all_heads.new.disk) (D.faults c.read_forests.new.disk) c.in-Ok.ensures.cause c.in-Ok-read_forests.ensures.cause;
@@ -99,9 +100,10 @@ loop-ag-preserved g c =
           (heads_of_group v image heads h ag n (c.in-Ok.ensures.read image told) c.loop-ag-test.true at) (omega arith) (before.left image told) c.next-trees.ensures).1;
       read = λ image told.
           groups_more v image ag old.groups new.groups (group_read v image ag) (before.read image told) refl (one.groups image (before.disk.same_contents ∙ told));
-      chosen_so = λ image told.
-          lists_more (candidates_in v image) ag old.clusters (candidates_in v image ag) new.clusters (before.chosen_so image told) refl
-          (one.clusters image (before.disk.same_contents ∙ told));
+      chosen_so = λ image told none.
+          lists_more (candidates_in v image) ag old.clusters (candidates_in v image ag) new.clusters
+          (before.chosen_so image told (λ unlooked. bare_before v image old.clusters one.placed.more new.clusters one.placed.joined (none unlooked))) refl
+          (one.clusters image (before.disk.same_contents ∙ told) none);
       held_so = λ image told.
           values_more (reserved_in v image) ag (lists_of old.trees) (lists_of new.trees) (reserved_in v image ag) (before.held_so image told) refl
           (one.trees image (before.disk.same_contents ∙ told));
@@ -137,7 +139,7 @@ returns g c =
     let last : c.loop-ag.ag ≡ c.args.g.now.agcount = omega arith in
     record {
       groups = λ image told. all.read image told ∙ ap (λ (n : ℕ). groups_from v image (range_with_len 0 n)) last;
-      clusters = λ image told. all_candidates v image c.loop-ag.ag c.loop-ag.all.clusters last (all.chosen_so image told);
+      clusters = λ image told none. all_candidates v image c.loop-ag.ag c.loop-ag.all.clusters last (all.chosen_so image told none);
       trees = λ image told. all.held_so image told ∙ ap (λ (n : ℕ). map (reserved_in v image) (range_with_len 0 n)) last;
       ascend = all.placed.ascend;
       low = all.placed.inside;

@@ -7,8 +7,9 @@ use Rattle.xfs_groups.proofs.looking.begins_as_slot.Goals as goal
 pub returns-in-Ok : goal.returns-in-Ok
 returns-in-Ok g c = record {
   begins = λ image told.
-      ap (λ (n : ℕ). n / 2 ^ 16 == 0x494e)
-      (c.get32.ensures ∙ ap (λ (xs : List ℕ). field_of xs 0 4) (c.in-Ok.ensures.bytes image told) ∙ first_number (bytes_of_block image c.args.place));
+      c.is_slot_block.ensures
+      ∙ ap (λ (n : ℕ). n / 2 ^ 16 == 0x494e)
+      (ap (λ (xs : List ℕ). field_of xs 0 4) (c.in-Ok.ensures.bytes image told) ∙ first_number (bytes_of_block image c.args.place));
   cause = c.in-Ok.ensures.cause;
   disk = record {
     same_size = c.in-Ok.ensures.size;

@@ -7,6 +7,8 @@ use Rattle.xfs_image.specs.Groups.{head_block}
 use Rattle.xfs_disk.proofs.Reading.{reads_none}
 use Rattle.xfs_groups.specs.Private.Chosen.{chosen, withheld}
 use Rattle.xfs_groups.specs.declared.scanned.ScannedGroup.{ScannedGroup}
+use Rattle.xfs_groups.specs.Answers.{hold_no_object}
+use Rattle.xfs_groups.proofs.Bare.{looked_at}
 use Rattle.xfs_groups.proofs.Causes.{no_later, low_start}
 use Rattle.xfs_groups.proofs.Choosing.{held_withheld}
 use Rattle.xfs_groups.proofs.one_group.look_through.Goals as goal
@@ -39,8 +41,9 @@ returns-then-not-told g c =
     let ag = c.args.ag in
     let found = c.scan_group.ensures in
     record {
-      chosen = subst (λ (b : Bool). IfOk c.scan_group.result (λ (s : ScannedGroup). ForSome (g.D.Disk.holds c.args.disk.now) (λ (image : Image).
-          s.clusters.items ≡ chosen v image b said.named ag (group_length v ag / 4)))) (sym c.if-not-told.true) found.chosen;
+      chosen = looked_at c.scan_group.result (g.D.Disk.holds c.args.disk.now) c.args.looks (hold_no_object v) (λ (image : Image). chosen v image said.trusted said.named ag (group_length v ag / 4))
+          (subst (λ (b : Bool). IfOk c.scan_group.result (λ (s : ScannedGroup). ForSome (g.D.Disk.holds c.args.disk.now) (λ (image : Image).
+          s.clusters.items ≡ chosen v image b said.named ag (group_length v ag / 4)))) (sym c.if-not-told.true) found.chosen);
       withheld = subst (λ (b : Bool). IfOk c.scan_group.result (λ (s : ScannedGroup). ForSome (g.D.Disk.holds c.args.disk.now) (λ (image : Image).
           s.reserved.items ≡ withheld v image b said.held (head_block v ag) (group_length v ag)))) (sym c.if-not-told.true) found.withheld;
       placed = found.placed;
@@ -72,8 +75,8 @@ returns-in-Ok-recorded_clusters g c =
     let said = c.args.told.now in
     let found = c.in-Ok-recorded_clusters.ensures in
     record {
-      chosen = λ image told.
-          found.chosen image told ∙ ap (λ (b : Bool). chosen v image b said.named c.args.ag (group_length v c.args.ag / 4)) (sym c.if-not-told.false);
+      chosen = λ image told none.
+          found.chosen image told none ∙ ap (λ (b : Bool). chosen v image b said.named c.args.ag (group_length v c.args.ag / 4)) (sym c.if-not-told.false);
       withheld = λ image told.
           c.in-Ok.ensures
           ∙ (held_withheld v image said.trusted said.held c.start_of_group.result c.group_length.result c.if-not-told.false

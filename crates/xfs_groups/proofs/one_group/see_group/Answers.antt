@@ -1,8 +1,10 @@
-use Rattle.std.proofs.Common.{◌≡◌, ◌/◌, Some, sym, subst, ◌∙◌, arith}
+use Rattle.std.proofs.Common.{◌≡◌, ◌/◌, true, List, Some, sym, subst, ◌∙◌, arith}
 use Rattle.xfs_geom.specs.Conversions.{group_length}
 use Rattle.xfs_geom.specs.Volumes.{volume_of}
 use Rattle.xfs_disk.proofs.Reading.{reads_none}
 use Rattle.xfs_disk.specs.Blocks.{Image}
+use Rattle.xfs_volume.specs.declared.clusters.ClusterRec.{ClusterRec}
+use Rattle.xfs_groups.specs.Answers.{hold_no_object}
 use Rattle.xfs_groups.specs.Private.Chosen.{ClustersPlaced}
 use Rattle.xfs_groups.specs.Private.ReadGroups.{IsToldIn}
 use Rattle.xfs_groups.proofs.Causes.{no_later}
@@ -39,8 +41,9 @@ returns-in-Ok-look_through g c =
     λ image told. subst (IsToldIn v image ag) (sym c.told.ensures) (c.in-Ok.ensures image (c.requires.parts image told)).told_is in
     record {
       «record» = λ image told. c.seen.ensures.record ∙ (c.in-Ok.ensures image (c.requires.parts image told)).record_is;
-      clusters = λ image told.
-          c.seen.ensures.clusters ∙ (found.chosen image told ∙ candidates_are v image ag said (told_is image told) (short c.args.g.now ag c.requires.group));
+      clusters = λ image told none.
+          c.seen.ensures.clusters
+          ∙ (found.chosen image told (λ unlooked. subst (λ (xs : List ClusterRec). hold_no_object v image xs ≡ true) c.seen.ensures.clusters (none unlooked)) ∙ candidates_are v image ag said (told_is image told) (short c.args.g.now ag c.requires.group));
       reserved = λ image told.
           c.seen.ensures.reserved ∙ (found.withheld image told ∙ reserved_are v image ag said (told_is image told) (short c.args.g.now ag c.requires.group));
       placed = subst (ClustersPlaced v ag (group_length v ag / 4)) (sym c.seen.ensures.clusters) found.placed;

@@ -5,15 +5,17 @@ use Rattle.xfs_geom.specs.Volumes.{volume_of}
 use Rattle.xfs_disk.proofs.Reading.{reads_none, reads_on}
 use Rattle.xfs_groups.specs.Private.Chosen.{are_clear, can_hold_cluster}
 use Rattle.xfs_groups.specs.declared.faults.GroupsFault.TheVariants as faults
+use Rattle.xfs_groups.specs.Answers.{are_bare}
+use Rattle.xfs_groups.proofs.Bare.{bare_front, bare_last}
 use Rattle.xfs_groups.proofs.Causes.{caused_on, later, no_later}
 use Rattle.xfs_groups.proofs.Rows.{all_more, all_unless}
 use Rattle.xfs_groups.proofs.recorded.are_clear.Goals as goal
 
 pub returns-in-Ok-false-clause-clear : goal.returns-in-Ok-false-clause-clear
-returns-in-Ok-false-clause-clear g c = λ image told.
+returns-in-Ok-false-clause-clear g c = λ image told none.
     let p : ℕ → Bool = can_hold_cluster (volume_of c.args.g.now) image in
     let here : p (c.args.first + c.loop-k.k) ≡ false =
-    sym (c.in-Ok-false.ensures.clear image (c.loop-k.invariant.disk.same_contents ∙ told)) ∙ c.in-Ok-false.field-0-test in
+    sym (c.in-Ok-false.ensures.clear image (c.loop-k.invariant.disk.same_contents ∙ told) (λ so unlooked. absurd (cc))) ∙ c.in-Ok-false.field-0-test in
     sym (all_unless p c.args.first c.args.count c.loop-k.k (omega arith) here)
 
 pub loop-k-preserved : goal.loop-k-preserved
@@ -21,11 +23,11 @@ loop-k-preserved g c =
     let D = g.D.Disk in
     let before = c.loop-k.invariant in
     record {
-      clear = λ image told.
+      clear = λ image told none.
           let p : ℕ → Bool = can_hold_cluster (volume_of c.args.g.now) image in
-          let here : p (c.args.first + c.loop-k.k) ≡ true = sym (c.in-Ok-true.ensures.clear image (before.disk.same_contents ∙ told)) ∙ c.in-Ok-true.field-0-test in
+          let here : p (c.args.first + c.loop-k.k) ≡ true = sym (c.in-Ok-true.ensures.clear image (before.disk.same_contents ∙ told) (λ so unlooked. bare_last (volume_of c.args.g.now) image c.args.first c.loop-k.k (none unlooked))) ∙ c.in-Ok-true.field-0-test in
           all_more p c.args.first c.loop-k.k
-          ∙ and_from (list_all p (range_with_len c.args.first c.loop-k.k)) (p (c.args.first + c.loop-k.k)) (before.clear image told) here;
+          ∙ and_from (list_all p (range_with_len c.args.first c.loop-k.k)) (p (c.args.first + c.loop-k.k)) (before.clear image told (λ unlooked. bare_front (volume_of c.args.g.now) image c.args.first c.loop-k.k (none unlooked))) here;
       later = later (D.faults c.args.disk.now) (D.faults c.loop-k.disk) (D.faults c.can_hold_cluster.new.disk) before.later c.in-Ok-true.ensures.cause;
       disk = reads_on D.size D.holds D.write_faults D.writes D.tells_stops D.moment D.may_leave D.left_since c.args.disk.now c.loop-k.disk c.can_hold_cluster.new.disk before.disk c.in-Ok-true.ensures.disk;
       reads = omega arith;
@@ -35,7 +37,7 @@ pub loop-k-init : goal.loop-k-init
 loop-k-init g c =
     let D = g.D.Disk in
     record {
-      clear = λ image told. refl;
+      clear = λ image told none. refl;
       later = no_later (D.faults c.args.disk.now);
       disk = reads_none D.size D.holds D.write_faults D.writes D.tells_stops D.moment D.may_leave D.left_since c.args.disk.now;
       reads = omega arith;
@@ -69,7 +71,7 @@ returns g c =
     let all = c.loop-k.invariant in
     let last : c.loop-k.k ≡ c.args.count = omega arith in
     record {
-      clear = λ image told. sym (all.clear image told) ∙ ap (are_clear (volume_of c.args.g.now) image c.args.first) last;
+      clear = λ image told none. sym (all.clear image told (λ unlooked. subst (λ (n : ℕ). are_bare (volume_of c.args.g.now) image c.args.first n ≡ true) (sym last) (none refl unlooked))) ∙ ap (are_clear (volume_of c.args.g.now) image c.args.first) last;
       cause = all.later;
       disk = all.disk;
       reads = omega arith;

@@ -7,6 +7,7 @@ use Rattle.xfs_groups.specs.Sets.{Rising, SameFrom, StartsFrom}
 use Rattle.xfs_groups.specs.Private.Chosen.{ClustersPlaced, chosen, cluster_place}
 use Rattle.xfs_groups.specs.declared.faults.GroupsFault.TheVariants as faults
 use Rattle.xfs_groups.proofs.Along.{named_at, same_later, same_on}
+use Rattle.xfs_groups.proofs.Bare.{bare_before, bare_here}
 use Rattle.xfs_groups.proofs.Causes.{caused_on, later, no_later}
 use Rattle.xfs_groups.proofs.Choosing.{chosen_more, chosen_where, none_chosen, placed_step}
 use Rattle.xfs_groups.proofs.Placed.{none_placed}
@@ -16,7 +17,7 @@ pub loop-i-init : goal.loop-i-init
 loop-i-init g c =
     let D = g.D.Disk in
     record {
-      chosen_so = λ image told. c.new-clusters.ensures.items ∙ sym (none_chosen (volume_of c.args.g.now) image true c.args.named.now c.args.ag);
+      chosen_so = λ image told none. c.new-clusters.ensures.items ∙ sym (none_chosen (volume_of c.args.g.now) image true c.args.named.now c.args.ag);
       placed = subst (ClustersPlaced (volume_of c.args.g.now) c.args.ag 0) (sym c.new-clusters.ensures.items) (none_placed (volume_of c.args.g.now) c.args.ag);
       high = omega arith;
       alike = λ q from. refl;
@@ -45,10 +46,12 @@ loop-i-preserved g c =
     (subst (λ (xs : List ℕ). Rising 0 (drop next xs) → StartsFrom q (drop next xs) → c.stands_at-is_named.result ≡ is_among (drop next xs) q) c.deref-in-loop-i.ensures.value
     c.stands_at-is_named.ensures) in
     record {
-      chosen_so = λ image told.
+      chosen_so = λ image told none.
           chosen_more v image true c.args.named.now c.args.ag c.loop-i.i (c.start_of_group-start.result + 4 * c.loop-i.i) c.in-Ok-is_chosen.is_chosen c.loop-i.clusters.items
           c.push_chosen.new.clusters.items at
-          (chosen_where v image c.args.named.now q _ _ named (c.in-Ok-is_chosen.ensures.chosen image (before.disk.same_contents ∙ told))) (before.chosen_so image told) c.in-Ok-push_chosen.ensures;
+          (chosen_where v image c.args.named.now q _ _ named (c.in-Ok-is_chosen.ensures.chosen image (before.disk.same_contents ∙ told)
+          (λ so unlooked. bare_here v image c.args.named.now q c.in-Ok-is_chosen.is_chosen c.loop-i.clusters.items c.push_chosen.new.clusters.items c.in-Ok-push_chosen.ensures (none unlooked) so)))
+          (before.chosen_so image told (λ unlooked. bare_before v image c.loop-i.clusters.items _ c.push_chosen.new.clusters.items c.in-Ok-push_chosen.ensures (none unlooked))) c.in-Ok-push_chosen.ensures;
       placed = placed_step v c.args.ag c.loop-i.i (c.start_of_group-start.result + 4 * c.loop-i.i) c.args.named.now c.in-Ok-is_chosen.is_chosen c.loop-i.clusters.items
           c.push_chosen.new.clusters.items at before.placed c.in-Ok-is_chosen.ensures.root c.in-Ok-push_chosen.ensures;
       high = subst (λ (xs : List ℕ). next ≤ length xs) c.deref.ensures.value c.first_from-next.ensures.high;
@@ -90,7 +93,7 @@ returns g c =
     let last : c.loop-i.i ≡ c.group_length-i-end.result / 4 = omega arith in
     let end : c.loop-i.i ≡ group_length v c.args.ag / 4 = last ∙ ap (λ (n : ℕ). n / 4) c.group_length-i-end.ensures.value in
     record {
-      chosen = λ image told. all.chosen_so image told ∙ ap (chosen v image true c.args.named.now c.args.ag) end;
+      chosen = λ image told none. all.chosen_so image told none ∙ ap (chosen v image true c.args.named.now c.args.ag) end;
       placed = subst (λ (n : ℕ). ClustersPlaced v c.args.ag n c.loop-i.clusters.items) end all.placed;
       cause = all.later;
       disk = all.disk;

@@ -31,6 +31,7 @@ returns-in-Ok-take_round g c =
     record {
       slots = λ image told. c.in-Ok-take_round.ensures.facts image (c.settle_round.ensures.disk.same_contents ∙ (c.reload_round.ensures.disk.same_contents ∙ told));
       inodes = λ image told. c.in-Ok-take_round.ensures.held image (c.settle_round.ensures.disk.same_contents ∙ (c.reload_round.ensures.disk.same_contents ∙ told));
+      bank = λ image told. c.in-Ok.ensures.held image told;
       cause = later (D.faults c.args.disk.now) (D.faults c.settle_round.new.disk) (D.faults c.take_round.new.disk) (later (D.faults c.args.disk.now) (D.faults c.reload_round.new.disk) (D.faults c.settle_round.new.disk) c.in-Ok.ensures.cause c.in-Ok-settle_round.ensures.cause) c.in-Ok-take_round.ensures.cause;
       disk = reads_on D.size D.holds D.write_faults D.writes D.tells_stops D.moment D.may_leave D.left_since c.args.disk.now c.reload_round.new.disk c.take_round.new.disk c.reload_round.ensures.disk
           (reads_on D.size D.holds D.write_faults D.writes D.tells_stops D.moment D.may_leave D.left_since c.reload_round.new.disk c.settle_round.new.disk c.take_round.new.disk
@@ -74,6 +75,7 @@ returns-in-Err-ReadFault g c =
     record {
       slots = tt;
       inodes = tt;
+      bank = tt;
       cause = subst (IsRoundCause (D.faults c.args.disk.now) (D.faults c.reload_round.new.disk)) c.in-Err-ReadFault.field-0-is c.in-Err-ReadFault.ensures.cause;
       disk = c.reload_round.ensures.disk;
       reads = c.reload_round.ensures.reads;
@@ -85,6 +87,7 @@ returns-in-Err-NoMemory g c =
     record {
       slots = tt;
       inodes = tt;
+      bank = tt;
       cause = subst (IsRoundCause (D.faults c.args.disk.now) (D.faults c.reload_round.new.disk)) c.in-Err-NoMemory.field-0-is c.in-Err-NoMemory.ensures.cause;
       disk = c.reload_round.ensures.disk;
       reads = c.reload_round.ensures.reads;
@@ -94,6 +97,7 @@ pub returns-in-Err : goal.returns-in-Err
 returns-in-Err g c = record {
   slots = tt;
   inodes = tt;
+  bank = tt;
   cause = c.in-Ok.ensures.cause;
   disk = c.reload_round.ensures.disk;
   reads = c.reload_round.ensures.reads;
@@ -106,6 +110,7 @@ returns-in-Err-ReadFault-settle_round g c =
     record {
       slots = tt;
       inodes = tt;
+      bank = tt;
       cause = rose_on (D.faults c.args.disk.now) (D.faults c.reload_round.new.disk) (D.faults c.settle_round.new.disk) c.in-Ok.ensures.cause cause;
       disk = reads_on D.size D.holds D.write_faults D.writes D.tells_stops D.moment D.may_leave D.left_since c.args.disk.now c.reload_round.new.disk c.settle_round.new.disk c.reload_round.ensures.disk c.settle_round.ensures.disk;
       reads = counted (D.reads c.args.disk.now) (D.reads c.reload_round.new.disk) (D.reads c.settle_round.new.disk) c.args.steps.now c.reload_round.new.steps c.settle_round.new.steps c.reload_round.ensures.reads c.settle_round.ensures.reads;
@@ -118,6 +123,7 @@ returns-in-Err-NoMemory-settle_round g c =
     record {
       slots = tt;
       inodes = tt;
+      bank = tt;
       cause = later (D.faults c.args.disk.now) (D.faults c.reload_round.new.disk) (D.faults c.settle_round.new.disk) c.in-Ok.ensures.cause cause;
       disk = reads_on D.size D.holds D.write_faults D.writes D.tells_stops D.moment D.may_leave D.left_since c.args.disk.now c.reload_round.new.disk c.settle_round.new.disk c.reload_round.ensures.disk c.settle_round.ensures.disk;
       reads = counted (D.reads c.args.disk.now) (D.reads c.reload_round.new.disk) (D.reads c.settle_round.new.disk) c.args.steps.now c.reload_round.new.steps c.settle_round.new.steps c.reload_round.ensures.reads c.settle_round.ensures.reads;
@@ -129,6 +135,7 @@ returns-in-Err-take_round g c =
     record {
       slots = tt;
       inodes = tt;
+      bank = tt;
       cause = caused_on (D.faults c.args.disk.now) (D.faults c.settle_round.new.disk) (D.faults c.take_round.new.disk) c.in-Err-take_round.fault
           (later (D.faults c.args.disk.now) (D.faults c.reload_round.new.disk) (D.faults c.settle_round.new.disk) c.in-Ok.ensures.cause c.in-Ok-settle_round.ensures.cause) c.in-Err-take_round.ensures.cause;
       disk = reads_on D.size D.holds D.write_faults D.writes D.tells_stops D.moment D.may_leave D.left_since c.args.disk.now c.reload_round.new.disk c.take_round.new.disk c.reload_round.ensures.disk
