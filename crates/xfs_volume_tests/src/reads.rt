@@ -102,18 +102,19 @@ const OWNERS: &str =
 /// part of the line over those before it.
 ///
 /// Where all reads, the header of a group and the blocks of its trees are read once for what they say and once for their log sequence
-/// numbers, block 0 once more for its counters. Blocks of clusters are looked at for other objects, but those of the root's cluster, whose
-/// slots count whatever they hold; then they are read once for their slots and the numbers in these. A directory's block is read for its
-/// entries and for its number, the log once, a file's data not at all. Where a part does not read, no numbers and no counters are read. A
-/// group whose trees do not name the same clusters is looked at block by block, and where the chunks are not the clusters whose slots are
-/// read, the slots of the chunks are read once more, with their directories, and then for their numbers.
+/// numbers, block 0 once more for its counters. Blocks of clusters are read once, for their slots and the numbers in these. A directory's
+/// block is read for its entries and for its number, the log once, a file's data not at all. Where a part does not read, no numbers and no
+/// counters are read. A group whose trees do not name the same clusters is looked at block by block, and where the chunks are not the
+/// clusters whose slots are read, the slots of the chunks are read once more, with their directories, and then for their numbers. Where a
+/// block of a cluster does not begin as a slot does, as the zeros of blocks 40 to 43, the groups, the slots and the directories are read
+/// anew: the first time clusters that are named were not looked at.
 const CASES: &str = "\
-nothing | | - false | true | 0 1 3, 1 6 2, 16 20 1, 20 24 2, 24 25 2, 1024 1030 2, 1030 1542 1
-a slot | | 140 false | false | 0 6 1, 16 20 1, 20 24 2, 24 25 1, 1024 1542 1
+nothing | | - false | true | 0 1 3, 1 6 2, 16 24 1, 24 25 2, 1024 1030 2, 1030 1542 1
+a slot | | 140 false | false | 0 6 1, 16 25 1, 1024 1542 1
 a tree of inodes | 3 | - false | false | 0 1024 1, 0 6 2, 16 25 2, 1024 1542 1
 both trees that name clusters | 3 5 | - false | false | 0 1024 1, 0 6 2, 16 20 2, 24 25 2, 1024 1542 1
-a tree of the second group | 1027 | - false | false | 0 6 1, 16 20 1, 20 24 2, 24 25 1, 1024 2048 1, 1024 1542 2
-one cluster more | | - true | true | 0 1024 1, 0 1 4, 1 6 3, 16 25 4, 40 44 2, 1024 1030 2, 1030 1542 1
+a tree of the second group | 1027 | - false | false | 0 6 1, 16 25 1, 1024 2048 1, 1024 1542 2
+one cluster more | | - true | true | 0 1024 2, 0 1 6, 1 6 5, 16 25 6, 40 44 4, 1024 1030 3, 1030 1542 1
 ";
 
 #[test]
