@@ -1,15 +1,16 @@
 -- What is seen of the sectors of blocks.
-use Rattle.std.proofs.Common.{◌≡◌, ℕ, zero, suc, ◌+◌, ◌-◌, ◌*◌, ◌/◌, ◌<◌, ◌≤◌, List, [], ◌∷◌, ◌++◌, length, map, take, drop, Some, refl, sym, ap, ap₂, ◌∙◌, arith}
+use Rattle.std.proofs.Common.{◌≡◌, ℕ, zero, suc, ◌+◌, ◌-◌, ◌*◌, ◌/◌, ◌<◌, ◌≤◌, List, [], ◌∷◌, ◌++◌, length, map, replicate, take, drop, Some, refl, sym, ap, ap₂, ◌∙◌, arith}
 use Rattle.std.specs.Prelude.{slice_get}
 use Rattle.std.specs.List.{flat_map, range_with_len}
-use Rattle.std.proofs.lemmas.List.{append_assoc, append-nil, length-append, length-drop, length-take-le, map-append, take_at}
+use Rattle.std.proofs.lemmas.List.{append_assoc, append-nil, length-append, length-drop, length-take-le, map-append, length-replicate, replicate-append-replicate, take_at}
 use Rattle.xfs_word.specs.Field.{part_of}
 use Rattle.xfs_disk.specs.Blocks.{AreBlocksFrom, Image, bytes_of_block}
-use Rattle.xfs_log.specs.Log.{seen_of}
+use Rattle.xfs_log.specs.Log.{all_sectors, no_sector, seen_of}
 use Rattle.xfs_tree.specs.Blocks.{each_of}
 use Rattle.xfs_log.specs.Sectors.{sector_in}
 use Rattle.xfs_log.specs.declared.sectors.SectorSeen.{SectorSeen}
-use Rattle.xfs_journal.specs.Placed.{seen_in, seen_in_blocks}
+use Rattle.xfs_journal.specs.declared.seen.SeenLog.{SeenLog}
+use Rattle.xfs_journal.specs.Placed.{IsListed, sectors_of, seen_in, seen_in_blocks}
 use Rattle.xfs_journal.proofs.Listing.{grown}
 use Rattle.xfs_journal.proofs.Outside.{read_bytes}
 
@@ -75,6 +76,44 @@ pub seen_all : (bytes : List ℕ) (k n : ℕ) (new all : List SectorSeen) → n 
 seen_all bytes k n new all past held =
     let none : n - k ≡ 0 = omega (arith, past) in
     sym (append-nil new) ∙ ap (λ m. new ++ seen_in_blocks bytes k m) (sym none) ∙ held
+
+-- zeros, one more
+pub zeros_more : (items : List SectorSeen) (k : ℕ) → items ++ replicate (k + 1) no_sector ≡ (items ++ replicate k no_sector) ++ no_sector ∷ []
+zeros_more items k = ap (λ xs. items ++ xs) (sym (replicate-append-replicate k 1 no_sector)) ∙ sym (append_assoc items (replicate k no_sector) (no_sector ∷ []))
+
+-- the sectors of a log are those that are listed and zeros
+pub sectors_are : (log : SeenLog) (n : ℕ) → length (sectors_of log) ≡ n → all_sectors log.seen.items n ≡ sectors_of log
+unfolding all_sectors
+sectors_are log n whole =
+    let zeros = length-replicate log.zeros no_sector in
+    let sum = length-append log.seen.items (replicate log.zeros no_sector) in
+    let rest : n - length log.seen.items ≡ log.zeros = omega (arith, whole, zeros, sum) in
+    ap (λ (k : ℕ). log.seen.items ++ replicate k no_sector) rest
+
+pub sectors_inside : (log : SeenLog) (n : ℕ) → length (sectors_of log) ≡ n → length log.seen.items ≤ n
+sectors_inside log n whole =
+    let sum = length-append log.seen.items (replicate log.zeros no_sector) in
+    omega (arith, whole, sum)
+
+pub sectors_listed : (log : SeenLog) (n : ℕ) → length (sectors_of log) ≡ n → IsListed log → length log.seen.items < 512 → length log.seen.items ≡ n
+sectors_listed log n whole listed few =
+    let none : log.zeros ≡ 0 = listed few in
+    let zeros = length-replicate log.zeros no_sector in
+    let sum = length-append log.seen.items (replicate log.zeros no_sector) in
+    omega (arith, whole, none, zeros, sum)
+
+-- how many sectors are seen in blocks
+pub seen_length : (bytes : List ℕ) (k n : ℕ) → length (seen_in_blocks bytes k n) ≡ 8 * n
+seen_length bytes k zero = refl
+seen_length bytes k (suc n) =
+    let rest = seen_length bytes (k + 1) n in
+    length-append (each_of 8 (seen_in (part_of bytes (k * 4096) 4096))) (seen_in_blocks bytes (k + 1) n) ∙ omega (arith, rest)
+
+-- sectors of n blocks more
+pub count_more : (bytes : List ℕ) (i n : ℕ) (old new : List SectorSeen) → length old ≡ 8 * i → new ≡ old ++ seen_in_blocks bytes 0 n → length new ≡ 8 * (i + n)
+count_more bytes i n old new count more =
+    let part = seen_length bytes 0 n in
+    ap (λ xs. length xs) more ∙ length-append old (seen_in_blocks bytes 0 n) ∙ omega (arith, count, part)
 
 -- the front of a room of sixteen blocks: its blocks, and what was read into it
 pub front_blocks : (n : ℕ) (run : List ℕ) → n ≤ 16 → length run ≡ 65536 → length (take (n * 4096) run) ≡ n * 4096

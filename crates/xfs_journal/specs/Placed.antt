@@ -1,9 +1,9 @@
 -- Places of log sequence numbers, as they are listed and read.
-use Rattle.std.specs.Prelude.{◌≡◌, ℕ, ◌+◌, ◌*◌, ◌≤◌, List, length, map, take, Option, Some, None, ⊤}
+use Rattle.std.specs.Prelude.{◌≡◌, ℕ, ◌+◌, ◌*◌, ◌<◌, ◌≤◌, List, ◌++◌, length, map, replicate, take, Option, Some, None, ⊤}
 use Rattle.std.specs.List.{flat_map, range_with_len}
 use Rattle.xfs_word.specs.Field.{field_of, part_of}
 use Rattle.xfs_tree.specs.Blocks.{each_of}
-use Rattle.xfs_log.specs.Log.{seen_of}
+use Rattle.xfs_log.specs.Log.{no_sector, seen_of}
 use Rattle.xfs_log.specs.declared.sectors.SectorSeen.{SectorSeen}
 use Rattle.xfs_word.specs.declared.extents.Extent.{Extent}
 use Rattle.xfs_disk.specs.Blocks.{Image, bytes_of_block}
@@ -12,6 +12,7 @@ use Rattle.xfs_image.specs.Lsns.{LsnPlace, cluster_places, dir_byte, extent_plac
 use Rattle.xfs_journal.specs.declared.extents.Owner.{Owner}
 use Rattle.xfs_journal.specs.declared.extents.Owner.TheVariants as owners
 use Rattle.xfs_journal.specs.declared.places.LsnPosition.{LsnPosition}
+use Rattle.xfs_journal.specs.declared.seen.SeenLog.{SeenLog}
 
 abbrev pub lsn_place_of : LsnPosition → LsnPlace
 lsn_place_of p = record { block = p.block; byte = p.byte }
@@ -52,3 +53,11 @@ seen_in block sector = seen_of (part_of block (512 * sector) 512)
 -- what is seen of the sectors of so many blocks that stand one behind the other, from block k on
 abbrev pub seen_in_blocks : List ℕ → ℕ → ℕ → List SectorSeen
 seen_in_blocks bytes k count = flat_map (λ k. each_of 8 (seen_in (part_of bytes (k * 4096) 4096))) (range_with_len k count)
+
+-- the sectors that were seen of a log: those that are listed, and behind them so many of zeros
+abbrev pub sectors_of : SeenLog → List SectorSeen
+sectors_of log = log.seen.items ++ replicate log.zeros no_sector
+
+-- zeros are counted behind 512 sectors alone
+abbrev pub IsListed : SeenLog → Type 0
+IsListed log = length log.seen.items < 512 → log.zeros ≡ 0

@@ -1,7 +1,8 @@
 //! The log of a volume, and the log sequence numbers that stand in its blocks, read from a disk.
 //!
 //! For whoever has to know whether a log is clean before anything is believed or written, and for the law on log sequence
-//! numbers. It reads a few blocks of the log at once and holds what it saw of each sector, not the log.
+//! numbers. It reads a few blocks of the log at once and holds what it saw of each sector, not the
+//! log; zeros behind the last sector of another kind are only counted.
 //!
 //! `xfs_mend` asks so where a volume is refused:
 //!
@@ -23,6 +24,7 @@ mod laws;
 mod log;
 mod lsns;
 mod places;
+mod seen;
 mod sorting;
 
 pub use faults::JournalFault;

@@ -1,31 +1,25 @@
 //! The log of a volume, read from a disk.
 
-ghost use Rattle.std.specs.Prelude.{◌≡◌, ◌≤◌, ◌+◌, ◌/◌, ◌%◌, ◌^◌, ◌<◌, ◌++◌, [], length, map, IfOk, OnOk};
+ghost use Rattle.std.specs.Prelude.{◌≡◌, ◌≤◌, ◌+◌, ◌*◌, ◌/◌, ◌%◌, ◌^◌, ◌<◌, length, map, IfOk, OnOk};
 ghost use Rattle.std.specs.Option.{ForSome};
 ghost use Rattle.xfs_disk.specs.Faults.{HasCause};
 ghost use Rattle.xfs_geom.specs.Volumes.{volume_of};
 ghost use Rattle.xfs_log.specs.Log.{seen_of};
 ghost use Rattle.xfs_disk.specs.Reads.{OnlyReads};
-ghost use Rattle.xfs_tree.specs.Blocks.{each_of};
 ghost use Rattle.xfs_disk.specs.Blocks.{AreBlocksFrom};
 ghost use Rattle.xfs_image.specs.View.{log_of};
 ghost use Rattle.xfs_log.specs.Sectors.{log_sectors};
 ghost use Rattle.xfs_journal.specs.Answers.{HasJournalCause};
-ghost use Rattle.xfs_journal.specs.Placed.{seen_in, seen_in_blocks};
+ghost use Rattle.xfs_journal.specs.Placed.{IsListed, sectors_of};
 
 use crate::faults::JournalFault;
+use crate::seen::{SECTORS, SeenLog, room_for_sectors, see_blocks};
 use std::alloc::Global;
 use std::sync::ledger::Ledger;
 use xfs_collections::Steps;
 use xfs_disk::{BLOCK_SIZE, Disk, Failed, NoMemory};
 use xfs_geom::Geometry;
-use xfs_log::{LogState, SectorSeen, log_state, see_sector};
-use xfs_word::part;
-
-/// The bytes of a sector, and the sectors of a block.
-const SECTOR_SIZE: usize = 512;
-
-const SECTORS: usize = 8;
+use xfs_log::{LogState, log_state};
 
 /// How many blocks of the log are read by one call, and their bytes.
 const RUN_BLOCKS: usize = 16;
@@ -48,7 +42,7 @@ pub fn read_log<D: Disk, L: Ledger>(
     ensures reads { D.reads disk.new + steps.old ≤ D.reads disk.old + steps.new }
 {
     match see_log(alloc, g, disk, steps) {
-        Ok(seen) => Ok(log_state(&seen)),
+        Ok(log) => Ok(log_state(&log.seen, SECTORS * g.logblocks as usize)),
         Err(fault) => Err(fault),
     }
 }
@@ -59,15 +53,17 @@ fn see_log<D: Disk, L: Ledger>(
     g: &Geometry,
     disk: &mut D,
     steps: &mut Steps<L>,
-) -> Result<Vec<SectorSeen>, JournalFault>
+) -> Result<SeenLog, JournalFault>
     requires inside { g.now.dblocks ≤ D.size disk.old }
-    ensures seen { IfOk result (λ seen. ForSome (D.holds disk.old) (λ image. seen.items ≡ map seen_of (log_sectors (volume_of g.now) image))) }
+    ensures seen { IfOk result (λ log. ForSome (D.holds disk.old) (λ image. sectors_of log ≡ map seen_of (log_sectors (volume_of g.now) image))) }
+    ensures count { IfOk result (λ log. length (sectors_of log) ≡ 8 * g.now.logblocks) }
+    ensures listed { IfOk result IsListed }
     ensures cause { HasJournalCause (D.faults disk.old) (D.faults disk.new) result }
     ensures disk { OnlyReads D.size D.holds D.write_faults D.writes D.tells_stops D.moment D.may_leave D.left_since disk.old disk.new }
     ensures reads { D.reads disk.new + steps.old ≤ D.reads disk.old + steps.new }
 {
-    let mut seen = match room_for_sectors(alloc, g) {
-        Ok(seen) => seen,
+    let mut log = match room_for_sectors(alloc, g) {
+        Ok(log) => log,
         Err(NoMemory) => return Err(JournalFault::NoMemory),
     };
     let mut run = [0; RUN_SIZE];
@@ -78,21 +74,13 @@ fn see_log<D: Disk, L: Ledger>(
             Ok(()) => {}
             Err(Failed) => return Err(JournalFault::ReadFault),
         }
-        match see_blocks(&run[..count * BLOCK_SIZE], &mut seen) {
+        match see_blocks(&run[..count * BLOCK_SIZE], &mut log) {
             Ok(()) => {}
             Err(NoMemory) => return Err(JournalFault::NoMemory),
         }
         i += count;
     }
-    Ok(seen)
-}
-
-/// An empty list with room for what is seen of all sectors of the log, so that it is never moved while it grows.
-fn room_for_sectors(alloc: Global, g: &Geometry) -> Result<Vec<SectorSeen>, NoMemory>
-    ensures { IfOk result (λ seen. seen.items ≡ []) }
-{
-    let seen = Vec::with_capacity(alloc, SECTORS * g.logblocks as usize)?;
-    Ok(seen)
+    Ok(log)
 }
 
 /// Reads blocks of the log from block `i` of it on, as many as `run` has room for, and counts each as a step.
@@ -128,25 +116,4 @@ fn log_block(g: &Geometry, i: u64) -> u64
     ensures number { g.now.dblocks < 2 ^ 64 }
 {
     g.log + i
-}
-
-/// Adds what is seen of the sectors of blocks that stand one behind the other.
-fn see_blocks(run: &[u8], seen: &mut Vec<SectorSeen>) -> Result<(), NoMemory>
-    ensures { OnOk result (seen.new.items ≡ seen.old.items ++ seen_in_blocks run.now 0 (length run.now / 4096)) }
-{
-    for k in 0..run.len() / BLOCK_SIZE {
-        see_block(part(run, k * BLOCK_SIZE, BLOCK_SIZE), seen)?;
-    }
-    Ok(())
-}
-
-/// Adds what is seen of the sectors of a block.
-fn see_block(block: &[u8], seen: &mut Vec<SectorSeen>) -> Result<(), NoMemory>
-    requires { length block.now ≡ 4096 }
-    ensures { OnOk result (seen.new.items ≡ seen.old.items ++ each_of 8 (seen_in block.now)) }
-{
-    for sector in 0..SECTORS {
-        seen.push(see_sector(part(block, SECTOR_SIZE * sector, SECTOR_SIZE)))?;
-    }
-    Ok(())
 }

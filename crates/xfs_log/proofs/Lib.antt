@@ -4,3 +4,4 @@ pub mod CleanLog
 pub mod Bytes
 pub mod BlankSectors
 pub mod BlankIsClean
+pub mod Zeros

@@ -1,5 +1,5 @@
 -- When a log is clean (chapter "Journaling Log"). Which logs count as clean is a choice of this project.
-use Rattle.std.specs.Prelude.{◌≡◌, ℕ, ◌+◌, ◌-◌, ◌*◌, ◌/◌, ◌%◌, ◌^◌, ◌⊎◌, Bool, true, false, not, ◌&&◌, ◌||◌, ◌==◌, nat_le, nat_lt, min, if◌then◌else◌, List, [], ◌∷◌, length, take, drop, slice_index_or, Option, Some, None, IsTrue}
+use Rattle.std.specs.Prelude.{◌≡◌, ℕ, ◌+◌, ◌-◌, ◌*◌, ◌/◌, ◌%◌, ◌^◌, ◌⊎◌, Bool, true, false, not, ◌&&◌, ◌||◌, ◌==◌, nat_le, nat_lt, min, if◌then◌else◌, List, [], ◌∷◌, ◌++◌, length, take, drop, replicate, slice_index_or, Option, Some, None, IsTrue}
 use Rattle.std.specs.List.{list_all, prefix_len}
 use Rattle.std.specs.Int.RustNames.{bit_and}
 use Rattle.xfs_heads.specs.xfs_geom.Features.{or_else}
@@ -59,6 +59,10 @@ first_cycle (sector ∷ sectors) = sector.cycle
 -- what stands at no place of a log
 abbrev pub no_sector : SectorSeen
 no_sector = record { cycle = 0; header = false; header_sectors = 0; len = 0; single = false; flag = 0 }
+
+-- the sectors of a log, so many, of which the first are these and all others zeros
+unfoldable pub all_sectors : List SectorSeen → ℕ → List SectorSeen
+all_sectors seen sectors = seen ++ replicate (sectors - length seen) no_sector
 
 -- the sector at a place of the log
 abbrev pub sector_at : List SectorSeen → ℕ → SectorSeen

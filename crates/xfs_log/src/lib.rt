@@ -5,7 +5,7 @@
 //!
 //! ```text
 //! seen.push(see_sector(sector))?;
-//! match log_state(&seen) { LogState::Clean(head) => .., LogState::Dirty => .. }
+//! match log_state(&seen, sectors) { LogState::Clean(head) => .., LogState::Dirty => .. }
 //! ```
 #![tactic(auto)]
 
@@ -15,6 +15,6 @@ mod sectors;
 mod state;
 
 pub use blank::blank_log_sector;
-pub use sectors::{SectorSeen, see_sector};
+pub use sectors::{SectorSeen, ZERO_SECTOR, see_sector};
 pub use state::log_state;
 pub use xfs_heads::LogState;

@@ -21,8 +21,8 @@ pub const SECTOR_SIZE: usize = 512;
 /// The flag of an operation that writes an unmount record.
 const UNMOUNT: u8 = 0x20;
 
-/// What of a sector of the log says whether the log is clean. A list of these is made, of hundreds of thousands for a large log, so
-/// they are small: of a header's numbers what is asked for, and of any other sector's none.
+/// What of a sector of the log says whether the log is clean. A list of these is made, of hundreds of thousands for a large log that is in
+/// use, so they are small: of a header's numbers what is asked for, and of any other sector's none.
 #[derive(Clone, Copy, Debug, PartialEq, Eq)]
 pub struct SectorSeen {
     /// How often the log had gone around when the sector was written.
@@ -38,6 +38,16 @@ pub struct SectorSeen {
     /// The flags that the sector has as the first data sector of a record.
     pub flag: u8,
 }
+
+/// What is seen of a sector of zeros.
+pub const ZERO_SECTOR: SectorSeen = SectorSeen {
+    cycle: 0,
+    header_sectors: 0,
+    len: 0,
+    header: false,
+    single: false,
+    flag: 0,
+};
 
 /// What of a sector says whether the log is clean.
 #[tactic(auto, unfolding(crate::specs::Log::seen_of))]

@@ -1,8 +1,8 @@
 //! Whether a log is clean: nothing stands in it that would have to be replayed.
 
-ghost use Rattle.std.specs.Prelude.{◌≡◌, ℕ, ◌+◌, ◌*◌, ◌^◌, ◌<◌, ◌≤◌, ◌↔◌, length, IfSome};
+ghost use Rattle.std.specs.Prelude.{◌≡◌, ◌||◌, ◌==◌, ℕ, ◌+◌, ◌*◌, ◌^◌, ◌<◌, ◌≤◌, ◌↔◌, ◌-◌, drop, length, IfSome};
 ghost use Rattle.std.specs.List.{list_all, prefix_len};
-ghost use Rattle.xfs_log.specs.Log.{is_unwritten_sector, is_of_cycle, first_cycle, last_header, nearest_header, is_unmount, ends_at, ends_in_unmount, is_unmounted, has_cleared_cycles, is_cleared, is_record, head_number, state_of, IsHead, IsAlone};
+ghost use Rattle.xfs_log.specs.Log.{is_unwritten_sector, is_of_cycle, first_cycle, last_header, nearest_header, is_unmount, ends_at, ends_in_unmount, is_unmounted, all_sectors, sector_at, has_unmount_flag, has_cleared_cycles, is_cleared, is_record, head_number, state_of, IsHead, IsAlone};
 ghost use Rattle.xfs_log.specs.BlankLog.{blank_log};
 ghost use Rattle.xfs_heads.specs.declared.log_state.LogState.TheVariants.{Clean};
 
@@ -12,35 +12,52 @@ use xfs_heads::LogState;
 /// The sectors that the tools of XFS write at once when they clear a log.
 const CLEARED: usize = 512;
 
-/// Whether the log of these sectors is clean, in a bounded number of passes. It is in three cases: it was
-/// never written; an unmount record ends at the sector at which the cycle changes; or the tools of XFS
-/// cleared it, and such a record stands at its start.
-pub fn log_state(seen: &[SectorSeen]) -> LogState
-    ensures state { result ≡ state_of seen.now }
-    ensures clean { (head : ℕ) → (result ≡ Clean head) ↔ IsHead seen.now head }
-    ensures alone { IsAlone seen.now }
-    ensures blank { (cycle sectors : ℕ) → 1 ≤ cycle → cycle < 2 ^ 31 → 3 ≤ sectors → seen.now ≡ blank_log cycle sectors → result ≡ Clean (cycle * 2 ^ 32 + 2) }
+/// Whether the log of so many `sectors` is clean, in a bounded number of passes. These were seen of it, and those behind them are zeros;
+/// each of the first 512 is listed. The log is clean in three cases: it was never written; an unmount record ends at the sector at which
+/// the cycle changes; or the tools of XFS cleared it, and such a record stands at its start.
+pub fn log_state(seen: &[SectorSeen], sectors: usize) -> LogState
+    requires inside { length seen.now ≤ sectors }
+    requires listed { length seen.now < 512 → length seen.now ≡ sectors }
+    ensures state { result ≡ state_of (all_sectors seen.now sectors) }
+    ensures clean { (head : ℕ) → (result ≡ Clean head) ↔ IsHead (all_sectors seen.now sectors) head }
+    ensures alone { IsAlone (all_sectors seen.now sectors) }
+    ensures blank { (cycle count : ℕ) → 1 ≤ cycle → cycle < 2 ^ 31 → 3 ≤ count → all_sectors seen.now sectors ≡ blank_log cycle count → result ≡ Clean (cycle * 2 ^ 32 + 2) }
 {
-    find_state(seen)
+    find_state(seen, sectors)
 }
 
-/// Tries the three cases one after the other.
-#[tactic(auto, unfolding(crate::specs::Log::state_of))]
-fn find_state(seen: &[SectorSeen]) -> LogState
-    ensures { result ≡ state_of seen.now }
+/// Tries the three cases one after the other. Zeros are of cycle 0, in which none of the two last is.
+fn find_state(seen: &[SectorSeen], sectors: usize) -> LogState
+    requires inside { length seen.now ≤ sectors }
+    requires listed { length seen.now < 512 → length seen.now ≡ sectors }
+    ensures { result ≡ state_of (all_sectors seen.now sectors) }
 {
     if are_unwritten(seen) {
         return LogState::Clean { head: 1 << 32 };
     }
     let cycle = first_cycle(seen);
+    if cycle == 0 {
+        return LogState::Dirty;
+    }
     let front = count_front(seen, cycle);
-    if is_unmounted(seen, cycle, front) || is_cleared(seen, cycle, front) {
+    if has_head(seen, sectors, cycle, front) {
         LogState::Clean {
-            head: head_number(cycle, front, seen.len()),
+            head: head_number(cycle, front, sectors),
         }
     } else {
         LogState::Dirty
     }
+}
+
+/// Whether the record of this cycle that ends before this sector is the last of the log, and unmounts the volume.
+fn has_head(seen: &[SectorSeen], sectors: usize, cycle: u32, head: usize) -> bool
+    requires whole { length seen.now ≤ sectors }
+    requires listed { length seen.now < 512 → length seen.now ≡ sectors }
+    requires inside { head ≤ length seen.now }
+    requires later { 1 ≤ cycle }
+    ensures { result ≡ (is_unmounted (all_sectors seen.now sectors) cycle head || is_cleared (all_sectors seen.now sectors) cycle head) }
+{
+    is_unmounted(seen, sectors, cycle, head) || is_cleared(seen, sectors, cycle, head)
 }
 
 /// Whether none of these sectors was ever written.
@@ -92,26 +109,53 @@ fn count_front(seen: &[SectorSeen], cycle: u32) -> usize
 
 /// Whether the first sectors, so many, have this cycle, all others the one before it, and the record that
 /// ends there is an unmount record alone.
-#[tactic(auto, unfolding(crate::specs::Log::is_unmounted))]
-fn is_unmounted(seen: &[SectorSeen], cycle: u32, head: usize) -> bool
-    requires { head ≤ length seen.now }
-    ensures { result ≡ is_unmounted seen.now cycle head }
+fn is_unmounted(seen: &[SectorSeen], sectors: usize, cycle: u32, head: usize) -> bool
+    requires whole { length seen.now ≤ sectors }
+    requires inside { head ≤ length seen.now }
+    requires later { 1 ≤ cycle }
+    ensures { result ≡ is_unmounted (all_sectors seen.now sectors) cycle head }
 {
-    1 <= cycle
-        && 1 <= head
-        && are_of_cycle(&seen[..head], cycle)
-        && are_of_cycle(&seen[head..], cycle - 1)
-        && ends_in_unmount(seen, head)
+    if head == 0 {
+        return false;
+    }
+    if !are_of_cycle(&seen[..head], cycle) {
+        return false;
+    }
+    if !are_before(seen, sectors, cycle, head) {
+        return false;
+    }
+    ends_in_unmount(seen, sectors, head)
+}
+
+/// Whether all sectors from `head` on have the cycle before this one.
+fn are_before(seen: &[SectorSeen], sectors: usize, cycle: u32, head: usize) -> bool
+    requires whole { length seen.now ≤ sectors }
+    requires inside { head ≤ length seen.now }
+    requires later { 1 ≤ cycle }
+    ensures { result ≡ list_all (is_of_cycle (cycle - 1)) (drop head (all_sectors seen.now sectors)) }
+{
+    if !are_zeros_before(seen.len(), sectors, cycle) {
+        return false;
+    }
+    are_of_cycle(&seen[head..], cycle - 1)
+}
+
+/// Whether the zeros behind the sectors that are listed have the cycle before this one, or there are none.
+fn are_zeros_before(listed: usize, sectors: usize, cycle: u32) -> bool
+    ensures { result ≡ (cycle == 1 || listed == sectors) }
+{
+    cycle == 1 || listed == sectors
 }
 
 /// Whether the nearest header, going back from the sector before `head` and around the start, begins a
 /// record that ends at `head` and is an unmount record alone.
-fn ends_in_unmount(seen: &[SectorSeen], head: usize) -> bool
-    requires { head ≤ length seen.now }
-    ensures { result ≡ ends_in_unmount seen.now head }
+fn ends_in_unmount(seen: &[SectorSeen], sectors: usize, head: usize) -> bool
+    requires whole { length seen.now ≤ sectors }
+    requires inside { head ≤ length seen.now }
+    ensures { result ≡ ends_in_unmount (all_sectors seen.now sectors) head }
 {
     match nearest_header(seen, head) {
-        Some(start) => is_unmount(seen, start) && ends_at(seen, start, head),
+        Some(start) => is_unmount(seen, sectors, start) && ends_at(seen, sectors, start, head),
         None => false,
     }
 }
@@ -144,29 +188,49 @@ fn last_header(seen: &[SectorSeen]) -> Option<usize>
 }
 
 /// Whether the record that begins at a header is an unmount record alone.
-#[tactic(auto, unfolding(crate::specs::Log::is_unmount))]
-fn is_unmount(seen: &[SectorSeen], start: usize) -> bool
-    requires { start < length seen.now }
-    ensures { result ≡ is_unmount seen.now start }
+fn is_unmount(seen: &[SectorSeen], sectors: usize, start: usize) -> bool
+    requires whole { length seen.now ≤ sectors }
+    requires inside { start < length seen.now }
+    ensures { result ≡ is_unmount (all_sectors seen.now sectors) start }
 {
     let header = seen[start];
-    let first_data = (start + header.header_sectors as usize) % seen.len();
-    header.single && header.len != 0 && seen[first_data].has_unmount_flag()
+    let first_data = (start + header.header_sectors as usize) % sectors;
+    header.single && header.len != 0 && has_flag(seen, first_data)
+}
+
+/// Whether the sector at a place of the log has the flag of an unmount record. What is not listed has none.
+fn has_flag(seen: &[SectorSeen], place: usize) -> bool
+    ensures { result ≡ has_unmount_flag (sector_at seen.now place) }
+{
+    place < seen.len() && seen[place].has_unmount_flag()
 }
 
 /// Whether the record that begins at a header ends before the sector `head`, going around.
-#[tactic(auto, unfolding(crate::specs::Log::ends_at))]
-fn ends_at(seen: &[SectorSeen], start: usize, head: usize) -> bool
-    requires { start < length seen.now }
-    ensures { result ≡ ends_at seen.now start head }
+fn ends_at(seen: &[SectorSeen], sectors: usize, start: usize, head: usize) -> bool
+    requires whole { length seen.now ≤ sectors }
+    requires inside { start < length seen.now }
+    ensures { result ≡ ends_at (all_sectors seen.now sectors) start head }
 {
-    (start + seen[start].record_sectors()) % seen.len() == head % seen.len()
+    (start + seen[start].record_sectors()) % sectors == head % sectors
 }
 
 /// Whether the tools of XFS cleared the log: they write 512 sectors at once, of which the first, so many,
-/// are an unmount record of this cycle.
+/// are an unmount record of this cycle. Behind these no sector is zeros, so all are listed.
+fn is_cleared(seen: &[SectorSeen], sectors: usize, cycle: u32, head: usize) -> bool
+    requires whole { length seen.now ≤ sectors }
+    requires listed { length seen.now < 512 → length seen.now ≡ sectors }
+    requires inside { head ≤ length seen.now }
+    ensures { result ≡ is_cleared (all_sectors seen.now sectors) cycle head }
+{
+    if seen.len() != sectors {
+        return false;
+    }
+    are_cleared(seen, cycle, head)
+}
+
+/// The same, where all sectors are listed.
 #[tactic(auto, unfolding(crate::specs::Log::is_cleared))]
-fn is_cleared(seen: &[SectorSeen], cycle: u32, head: usize) -> bool
+fn are_cleared(seen: &[SectorSeen], cycle: u32, head: usize) -> bool
     requires { head ≤ length seen.now }
     ensures { result ≡ is_cleared seen.now cycle head }
 {
@@ -199,7 +263,17 @@ fn is_record(seen: &[SectorSeen], head: usize) -> bool
     requires inside { head ≤ length seen.now }
     ensures { result ≡ is_record seen.now head }
 {
-    last_header(&seen[..head]) == Some(0) && seen[0].record_sectors() == head && is_unmount(seen, 0)
+    last_header(&seen[..head]) == Some(0)
+        && seen[0].record_sectors() == head
+        && begins_with_unmount(seen)
+}
+
+/// Whether the record that the first sector begins is an unmount record alone, where all sectors are listed.
+fn begins_with_unmount(seen: &[SectorSeen]) -> bool
+    requires { 1 ≤ length seen.now }
+    ensures { result ≡ is_unmount seen.now 0 }
+{
+    is_unmount(seen, seen.len(), 0)
 }
 
 /// The number of the head at a sector in this cycle; behind the last sector a new cycle begins.

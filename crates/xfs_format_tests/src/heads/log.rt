@@ -5,7 +5,7 @@ ghost use Rattle.std.specs.Prelude.{◌≡◌, ◌≤◌, ◌<◌, ◌^◌, leng
 use super::*;
 use crate::checks::{equal, equal_at, must};
 use crate::text::{Row, line_at, line_count, part_at, part_count, put_parts, refuse, tells};
-use xfs_log::{LogState, SectorSeen, blank_log_sector, log_state, see_sector};
+use xfs_log::{LogState, SectorSeen, ZERO_SECTOR, blank_log_sector, log_state, see_sector};
 
 /// A sector that was never written.
 const NEW: SectorSeen = SectorSeen {
@@ -154,9 +154,32 @@ fn states(rt: HostRuntime) {
             let mut row = Row::new(line);
             let _case = row.text();
             let seen = lay(&rt, row.text());
-            equal_at(&rt, log_state(&seen), state_of(&rt, row), line);
+            let due = state_of(&rt, row);
+            equal_at(&rt, log_state(&seen, seen.len()), due, line);
+            equal_at(
+                &rt,
+                log_state(&seen[..listed_of(&seen)], seen.len()),
+                due,
+                line,
+            );
         }
     }
+}
+
+/// How many sectors of a log are listed, where of those behind the first 512 the last ones that are zeros are not.
+fn listed_of(seen: &[SectorSeen]) -> usize
+    ensures inside { result ≤ length seen.now }
+    ensures listed { result < 512 → result ≡ length seen.now }
+{
+    let mut zeros: usize = 0;
+    for sector in seen {
+        zeros = if *sector == NEW {
+            zeros.saturating_add(1)
+        } else {
+            0
+        };
+    }
+    seen.len() - zeros.min(seen.len().saturating_sub(512))
 }
 
 /// The first sector of the log that `mkfs.xfs` wrote, up to the first replaced number and from the format on.
@@ -185,7 +208,7 @@ fn blank_sectors(rt: HostRuntime) {
             must(&rt, seen.push(see_sector(&sector)));
         }
         let head = ((cycle as u64) << 32) + 2;
-        equal(&rt, log_state(&seen), LogState::Clean { head });
+        equal(&rt, log_state(&seen, seen.len()), LogState::Clean { head });
     }
 }
 
@@ -203,6 +226,7 @@ const CHANGED: &str = "0 feedbabd, 8 aa200000";
 #[test]
 fn seen_sectors(rt: HostRuntime) {
     let mut sector = [0; 512];
+    equal(&rt, see_sector(&sector), ZERO_SECTOR);
     for i in 0..line_count(SEEN) {
         let line = line_at(SEEN, i);
         let mut row = Row::new(line);

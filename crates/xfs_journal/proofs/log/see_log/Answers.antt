@@ -3,9 +3,9 @@ use Rattle.std.proofs.Common.{◌≡◌, ◌≤◌, ◌<◌, ◌+◌, ◌-◌, �
 use Rattle.std.specs.List.{range_with_len}
 use Rattle.xfs_tree.specs.Blocks.{each_of}
 use Rattle.xfs_disk.specs.Blocks.{AreBlocksFrom, bytes_of_block}
-use Rattle.xfs_journal.specs.Placed.{seen_in, seen_in_blocks}
+use Rattle.xfs_journal.specs.Placed.{sectors_of, seen_in, seen_in_blocks}
 use Rattle.xfs_journal.proofs.Listing.{held_from_start, held_to_end}
-use Rattle.xfs_journal.proofs.LogSeen.{all_seen, front_blocks, front_read, held_run, room_kept, seen_read, steps_on, whole_blocks}
+use Rattle.xfs_journal.proofs.LogSeen.{all_seen, count_more, front_blocks, front_read, held_run, room_kept, seen_read, steps_on, whole_blocks}
 use Rattle.xfs_disk.proofs.Reading.{reads_none, reads_on}
 use Rattle.xfs_journal.proofs.Reading.{later_on, rose_on}
 use Rattle.xfs_journal.proofs.log.see_log.Goals as goal
@@ -16,7 +16,9 @@ loop-i-init g c =
     record {
       within = omega arith;
       seen = λ image told.
-          held_from_start (λ block. each_of 8 (seen_in (bytes_of_block image block))) c.args.g.now.log c.args.g.now.logblocks c.in-Ok.seen.items c.in-Ok.ensures;
+          held_from_start (λ block. each_of 8 (seen_in (bytes_of_block image block))) c.args.g.now.log c.args.g.now.logblocks (sectors_of c.in-Ok.log) c.in-Ok.ensures.empty;
+      count = ap (λ xs. length xs) c.in-Ok.ensures.empty;
+      listed = c.in-Ok.ensures.listed;
       run = refl;
       later = omega arith;
       disk = reads_none D.size D.holds D.write_faults D.writes D.tells_stops D.moment D.may_leave D.left_since c.args.disk.now;
@@ -38,12 +40,16 @@ loop-i-preserved g c =
     record {
       within = room;
       seen = λ image told.
-          held_run (λ block. each_of 8 (seen_in (bytes_of_block image block))) c.args.g.now.log c.loop-i.i n c.args.g.now.logblocks c.loop-i.seen.items c.see_blocks.new.seen.items _ room
-          (c.in-Ok-see_blocks.ensures ∙ ap (λ (bytes : List ℕ). c.loop-i.seen.items ++ seen_in_blocks bytes 0 (length bytes / 4096)) shown
-          ∙ ap (λ (k : ℕ). c.loop-i.seen.items ++ seen_in_blocks c.read_blocks.new.run 0 k) (whole_blocks n (length c.read_blocks.new.run) long)
-          ∙ ap (λ xs. c.loop-i.seen.items ++ xs) (seen_read image (c.args.g.now.log + c.loop-i.i) n c.read_blocks.new.run
+          held_run (λ block. each_of 8 (seen_in (bytes_of_block image block))) c.args.g.now.log c.loop-i.i n c.args.g.now.logblocks (sectors_of c.loop-i.log) (sectors_of c.see_blocks.new.log) _ room
+          (c.in-Ok-see_blocks.ensures.seen ∙ ap (λ (bytes : List ℕ). sectors_of c.loop-i.log ++ seen_in_blocks bytes 0 (length bytes / 4096)) shown
+          ∙ ap (λ (k : ℕ). sectors_of c.loop-i.log ++ seen_in_blocks c.read_blocks.new.run 0 k) (whole_blocks n (length c.read_blocks.new.run) long)
+          ∙ ap (λ xs. sectors_of c.loop-i.log ++ xs) (seen_read image (c.args.g.now.log + c.loop-i.i) n c.read_blocks.new.run
           (subst (λ (k : ℕ). AreBlocksFrom image (c.args.g.now.log + c.loop-i.i) k c.read_blocks.new.run) count (c.in-Ok-read_blocks.ensures.bytes image (before.disk.same_contents ∙ told)))))
           (before.seen image told);
+      count = count_more c.read_blocks.new.run c.loop-i.i n (sectors_of c.loop-i.log) (sectors_of c.see_blocks.new.log) before.count
+          (c.in-Ok-see_blocks.ensures.seen ∙ ap (λ (bytes : List ℕ). sectors_of c.loop-i.log ++ seen_in_blocks bytes 0 (length bytes / 4096)) shown
+          ∙ ap (λ (k : ℕ). sectors_of c.loop-i.log ++ seen_in_blocks c.read_blocks.new.run 0 k) (whole_blocks n (length c.read_blocks.new.run) long));
+      listed = c.in-Ok-see_blocks.ensures.listed;
       run = room_kept n c.read_blocks.new.run c.loop-i.run few long before.run;
       later = let up = before.later in let cause = c.in-Ok-read_blocks.ensures.cause in omega (arith, up, cause);
       disk = reads_on D.size D.holds D.write_faults D.writes D.tells_stops D.moment D.may_leave D.left_since c.args.disk.now c.loop-i.disk c.read_blocks.new.disk before.disk c.read_blocks.ensures.disk;
@@ -77,9 +83,11 @@ returns g c =
     let all = c.loop-i.invariant in
     record {
       seen = λ image told.
-          held_to_end (λ block. each_of 8 (seen_in (bytes_of_block image block))) c.args.g.now.log c.loop-i.i c.args.g.now.logblocks c.loop-i.seen.items _
+          held_to_end (λ block. each_of 8 (seen_in (bytes_of_block image block))) c.args.g.now.log c.loop-i.i c.args.g.now.logblocks (sectors_of c.loop-i.log) _
           (omega (arith, c.loop-i-test.false)) (all.seen image told)
           ∙ sym (all_seen image (range_with_len c.args.g.now.log c.args.g.now.logblocks));
+      count = all.count ∙ ap (λ (k : ℕ). 8 * k) (omega (arith, all.within, c.loop-i-test.false));
+      listed = all.listed;
       cause = all.later;
       disk = all.disk;
       reads = all.reads;
@@ -90,6 +98,8 @@ returns-in-Err g c =
     let D = g.D.Disk in
     record {
       seen = tt;
+      count = tt;
+      listed = tt;
       cause = omega arith;
       disk = reads_none D.size D.holds D.write_faults D.writes D.tells_stops D.moment D.may_leave D.left_since c.args.disk.now;
       reads = omega arith;
@@ -101,6 +111,8 @@ returns-in-Err-read_blocks g c =
     let before = c.loop-i.invariant in
     record {
       seen = tt;
+      count = tt;
+      listed = tt;
       cause = rose_on (D.faults c.args.disk.now) (D.faults c.loop-i.disk) (D.faults c.read_blocks.new.disk) before.later c.in-Err-read_blocks.ensures.cause;
       disk = reads_on D.size D.holds D.write_faults D.writes D.tells_stops D.moment D.may_leave D.left_since c.args.disk.now c.loop-i.disk c.read_blocks.new.disk before.disk c.read_blocks.ensures.disk;
       reads = steps_on (D.reads c.args.disk.now) (D.reads c.loop-i.disk) (D.reads c.read_blocks.new.disk) c.args.steps.now c.loop-i.steps c.read_blocks.new.steps _ before.reads c.read_blocks.ensures.reads c.read_blocks.ensures.ticks;
@@ -112,6 +124,8 @@ returns-in-Err-see_blocks g c =
     let before = c.loop-i.invariant in
     record {
       seen = tt;
+      count = tt;
+      listed = tt;
       cause = later_on (D.faults c.args.disk.now) (D.faults c.loop-i.disk) (D.faults c.read_blocks.new.disk) before.later c.in-Ok-read_blocks.ensures.cause;
       disk = reads_on D.size D.holds D.write_faults D.writes D.tells_stops D.moment D.may_leave D.left_since c.args.disk.now c.loop-i.disk c.read_blocks.new.disk before.disk c.read_blocks.ensures.disk;
       reads = steps_on (D.reads c.args.disk.now) (D.reads c.loop-i.disk) (D.reads c.read_blocks.new.disk) c.args.steps.now c.loop-i.steps c.read_blocks.new.steps _ before.reads c.read_blocks.ensures.reads c.read_blocks.ensures.ticks;

@@ -1,5 +1,5 @@
 use Rattle.std.proofs.Common.{sym, ap, ◌∙◌}
-use Rattle.xfs_log.specs.Log.{state_of}
+use Rattle.xfs_log.specs.Log.{all_sectors, state_of}
 use Rattle.xfs_log.proofs.BlankIsClean.{blank_is_clean}
 use Rattle.xfs_log.proofs.Alone.{alone}
 use Rattle.xfs_log.proofs.CleanLog.{has_head, of_head}
@@ -7,11 +7,11 @@ use Rattle.xfs_log.proofs.state.log_state.Goals as goal
 
 pub returns-clause-clean : goal.returns-clause-clean
 returns-clause-clean c =
-    λ head. (λ is. has_head c.args.seen.now head (sym c.find_state.ensures ∙ is), λ h. c.find_state.ensures ∙ of_head c.args.seen.now head h)
+    λ head. (λ is. has_head (all_sectors c.args.seen.now c.args.sectors) head (sym c.find_state.ensures ∙ is), λ h. c.find_state.ensures ∙ of_head (all_sectors c.args.seen.now c.args.sectors) head h)
 
 pub returns-clause-alone : goal.returns-clause-alone
-returns-clause-alone c = alone c.args.seen.now
+returns-clause-alone c = alone (all_sectors c.args.seen.now c.args.sectors)
 
 pub returns-clause-blank : goal.returns-clause-blank
 returns-clause-blank c =
-    λ cycle sectors later low long is. c.find_state.ensures ∙ (ap state_of is ∙ blank_is_clean cycle sectors later low long)
+    λ cycle count later low long is. c.find_state.ensures ∙ (ap state_of is ∙ blank_is_clean cycle count later low long)
