@@ -1,10 +1,12 @@
--- What a sort of runs gives rises.
+-- What a sort of runs gives rises, and has the same runs.
 use Rattle.std.proofs.Common.{◌≡◌, ℕ, suc, ◌+◌, ◌<◌, ◌≤◌, false, List, [], ◌∷◌, length, take, drop, ◌++◌, ◌∙◌, ap, subst, arith, get_or}
-use Rattle.std.specs.List.Sorted.{IsSorted}
+use Rattle.std.specs.List.Sorted.{IsPermutation, IsSorted}
 use Rattle.std.specs.declared.cmp.Ordering.{Ordering}
 use Rattle.std.specs.Ordering.{is_lt, nat_cmp, ordering_then}
 use Rattle.std.proofs.lemmas.Bool.Decides.{nat_tests}
 use Rattle.std.proofs.lemmas.List.{append-nil, drop_all, take_all}
+use Rattle.std.proofs.lemmas.List.Sorted.{IsPermutation-append_left, IsPermutation-append_right}
+use borrow.Rule.Slice.PartMut.{mid_of, post_of, put_mid, put_same}
 use Rattle.xfs_geom.specs.contracts.records.RunOrd.TheImpl.{cmp-value}
 use Rattle.xfs_geom.specs.declared.records.Run.{Run}
 use Rattle.xfs_space.specs.Sorted.{StartsRise}
@@ -31,3 +33,10 @@ pub restored : (s items : List Run) (len : ℕ) → length s ≡ len → length 
 restored s items len size same =
     let none : drop (length s) items ≡ [] = drop_all (length s) items (omega (arith, size, same)) in
     rw none (ap (take len) (append-nil s) ∙ take_all len s (omega (arith, size)))
+
+-- a part of a list in another order
+pub moved_part : (a k : ℕ) (xs ys : List Run) → IsPermutation (mid_of a k xs) ys → IsPermutation xs (put_mid a k xs ys)
+moved_part a k xs ys moved =
+    let behind = post_of a k xs in
+    subst (λ (zs : List Run). IsPermutation zs (put_mid a k xs ys)) (put_same a k xs)
+    (IsPermutation-append_right (take a xs) (mid_of a k xs ++ behind) (ys ++ behind) (IsPermutation-append_left behind (mid_of a k xs) ys moved))
