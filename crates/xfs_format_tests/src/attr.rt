@@ -62,17 +62,14 @@ no fork | | Unsound
 
 #[test]
 fn short_forms(rt: HostRuntime) {
+    let rt = &rt;
+    let alloc = rt.alloc();
     for i in 0..line_count(SHORT_FORMS) {
         let line = line_at(SHORT_FORMS, i);
         let mut row = Row::new(line);
         let case = row.text();
-        let fork = row.bytes(&rt, rt.alloc());
-        expect(
-            &rt,
-            read_short_attributes(rt.alloc(), &fork),
-            row.text(),
-            case,
-        );
+        let fork = row.bytes(rt, alloc);
+        expect(rt, read_short_attributes(alloc, &fork), row.text(), case);
     }
 }
 
@@ -116,14 +113,15 @@ entries past the block that are local | 56 ffff, 80 ff*4016 | Unsound
 
 #[test]
 fn leaves(rt: HostRuntime) {
+    let rt = &rt;
     let mut whole = [0; BLOCK_SIZE];
-    put_parts(&rt, &mut whole, LEAF);
+    put_parts(rt, &mut whole, LEAF);
     for i in 0..line_count(LEAVES) {
         let line = line_at(LEAVES, i);
         let mut row = Row::new(line);
         let case = row.text();
         let mut block = whole;
-        put_parts(&rt, &mut block, row.text());
-        expect(&rt, read_leaf(rt.alloc(), &block), row.text(), case);
+        put_parts(rt, &mut block, row.text());
+        expect(rt, read_leaf(rt.alloc(), &block), row.text(), case);
     }
 }

@@ -72,14 +72,16 @@ fn number_parts<R: Threads + Sync>(rt: &R, bank: &mut BlockBank, cuts: &[usize])
 
 #[test]
 fn filled_and_marked(rt: HostRuntime) {
-    let mut disk = three_blocks(&rt, rt.alloc());
-    let mut bank = three_zeros(&rt, rt.alloc());
-    equal(&rt, bank.len(), 3);
-    assert_blocks(&rt, &bank, "0 0, 0 0, 0 0");
-    equal(&rt, bank.fill(&mut disk, &[2, 0, 1]), Ok(()));
-    assert_blocks(&rt, &bank, "12 12, 10 10, 11 11");
+    let rt = &rt;
+    let alloc = rt.alloc();
+    let mut disk = three_blocks(rt, alloc);
+    let mut bank = three_zeros(rt, alloc);
+    equal(rt, bank.len(), 3);
+    assert_blocks(rt, &bank, "0 0, 0 0, 0 0");
+    equal(rt, bank.fill(&mut disk, &[2, 0, 1]), Ok(()));
+    assert_blocks(rt, &bank, "12 12, 10 10, 11 11");
     bank.each_part(
-        &rt,
+        rt,
         &[1],
         &|number: usize, part: &mut [u8]| {
             if let Some(first) = part.first_mut() {
@@ -87,30 +89,33 @@ fn filled_and_marked(rt: HostRuntime) {
             }
         },
     );
-    assert_blocks(&rt, &bank, "1 12, 2 10, 11 11");
+    assert_blocks(rt, &bank, "1 12, 2 10, 11 11");
     bank.view_mut(2)[0] = 7;
-    assert_blocks(&rt, &bank, "1 12, 2 10, 7 11");
+    assert_blocks(rt, &bank, "1 12, 2 10, 7 11");
 }
 
 #[test]
 fn cut_into_parts(rt: HostRuntime) {
-    let mut bank = three_zeros(&rt, rt.alloc());
-    number_parts(&rt, &mut bank, &[1]);
-    assert_blocks(&rt, &bank, "1 1, 2 2, 2 2");
-    number_parts(&rt, &mut bank, &[]);
-    assert_blocks(&rt, &bank, "1 1, 1 1, 1 1");
-    number_parts(&rt, &mut bank, &[1, 1]);
-    assert_blocks(&rt, &bank, "1 1, 3 3, 3 3");
-    number_parts(&rt, &mut bank, &[0, 2, 3]);
-    assert_blocks(&rt, &bank, "2 2, 2 2, 3 3");
+    let rt = &rt;
+    let mut bank = three_zeros(rt, rt.alloc());
+    number_parts(rt, &mut bank, &[1]);
+    assert_blocks(rt, &bank, "1 1, 2 2, 2 2");
+    number_parts(rt, &mut bank, &[]);
+    assert_blocks(rt, &bank, "1 1, 1 1, 1 1");
+    number_parts(rt, &mut bank, &[1, 1]);
+    assert_blocks(rt, &bank, "1 1, 3 3, 3 3");
+    number_parts(rt, &mut bank, &[0, 2, 3]);
+    assert_blocks(rt, &bank, "2 2, 2 2, 3 3");
 }
 
 #[test]
 fn filled_up_to_a_failed_read(rt: HostRuntime) {
-    let mut disk = three_blocks(&rt, rt.alloc());
-    must(&rt, disk.fail(2));
-    let mut bank = three_zeros(&rt, rt.alloc());
-    equal(&rt, bank.fill(&mut disk, &[2, 0, 1]), Err(Failed));
-    equal(&rt, disk.faults(), 1);
-    assert_blocks(&rt, &bank, "0 0, 10 10, 0 0");
+    let rt = &rt;
+    let alloc = rt.alloc();
+    let mut disk = three_blocks(rt, alloc);
+    must(rt, disk.fail(2));
+    let mut bank = three_zeros(rt, alloc);
+    equal(rt, bank.fill(&mut disk, &[2, 0, 1]), Err(Failed));
+    equal(rt, disk.faults(), 1);
+    assert_blocks(rt, &bank, "0 0, 10 10, 0 0");
 }

@@ -5,7 +5,7 @@ ghost use Rattle.xfs_word.specs.Seal.{layout_of};
 ghost use Rattle.xfs_dirindex.specs.Mapped.{OffsetsAscend};
 ghost use Rattle.xfs_dirbuild.specs.Names.{HasNameOfSix};
 
-use crate::checks::{must, same, sure};
+use crate::checks::{compare_at, must, sure};
 use crate::dirindex::{assert_ascending, check};
 use crate::text::{Row, line_at, line_count, part_at, part_count, tells};
 use std::alloc::{AllocError, Global};
@@ -148,7 +148,12 @@ fn placed(rt: &impl Abort, alloc: Global, image: DirImage) -> DirSeen
     for i in 0..count {
         let offset = file_block(i, data_blocks, index_blocks);
         sure(rt, (i as usize) < blocks.len(), "a block of the bank");
-        same!(*rt; place(offset, blocks.view_mut(i as usize)), true; offset);
+        compare_at(
+            rt,
+            &place(offset, blocks.view_mut(i as usize)),
+            &true,
+            &offset,
+        );
         must(rt, offsets.push(offset));
     }
     assert_ascending(rt, 0, offsets.as_slice());
@@ -198,18 +203,19 @@ fn assert_share(rt: &impl Abort, alloc: Global, image: &DirImage, mut row: Row) 
     let (first, end) = (row.number(rt), row.number(rt));
     let due: usize = row.number(rt);
     for block in first..end {
-        same!(*rt; share(rt, alloc, image, block), due; block);
+        compare_at(rt, &share(rt, alloc, image, block), &due, &block);
     }
 }
 
 /// Asserts that what is built of a row is as the row says, and whole, and is not with another address.
 fn assert_row(rt: &(impl Abort + AllocGlobal), line: &str) {
+    let alloc = rt.alloc();
     let mut row = Row::new(line);
     let (count, form) = (row.number(rt), row.word());
     sure(rt, count <= 20000, line);
-    let image = must(rt, built(rt.alloc(), count));
+    let image = must(rt, built(alloc, count));
     assert_image(rt, &image, &mut row, line);
-    let dir = placed(rt, rt.alloc(), image);
+    let dir = placed(rt, alloc, image);
     if form != "short" {
         assert_dir(rt, form, dir, row, line);
     }
@@ -234,7 +240,8 @@ fn assert_dir(
     requires mapped { length dir.blocks ≡ length dir.offsets.items }
     requires ascending { OffsetsAscend 0 dir.offsets.items }
 {
-    tells(rt, &check(rt.alloc(), form, &dir), "Ok(())", line);
+    let alloc = rt.alloc();
+    tells(rt, &check(alloc, form, &dir), "Ok(())", line);
     let (block, at) = (row.number(rt), row.number(rt));
     sure(rt, block < dir.blocks.len(), line);
     sure(rt, at < 4000, line);
@@ -242,7 +249,7 @@ fn assert_dir(
     let address = get32(bytes, at);
     put32(bytes, at, address.wrapping_add(1));
     sure(rt, dir.blocks.len() == dir.offsets.len(), line);
-    tells(rt, &check(rt.alloc(), form, &dir), "Err(Unsound)", line);
+    tells(rt, &check(alloc, form, &dir), "Err(Unsound)", line);
     drop(dir);
 }
 

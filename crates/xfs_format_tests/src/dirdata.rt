@@ -85,21 +85,24 @@ fn assert_entry(rt: &impl Abort, entry: &EntryRec, line: &str) {
 
 #[test]
 fn short_form(rt: HostRuntime) {
-    assert_short(&rt, TWO, TWO_ENTRIES);
-    assert_short(&rt, SHORT, SHORT_ENTRIES);
-    let entries = two_entries(&rt, rt.alloc());
+    let rt = &rt;
+    let alloc = rt.alloc();
+    assert_short(rt, TWO, TWO_ENTRIES);
+    assert_short(rt, SHORT, SHORT_ENTRIES);
+    let entries = two_entries(rt, alloc);
     let mut form = [0xee; 26];
     let size = put_short(128, &entries, &mut form);
-    equal(&rt, size, 24);
-    let two = Row::new(TWO).bytes(&rt, rt.alloc());
-    equal(&rt, &form[..24], two.as_slice());
-    equal(&rt, &form[24..], [0xee, 0xee].as_slice());
+    equal(rt, size, 24);
+    let two = Row::new(TWO).bytes(rt, alloc);
+    equal(rt, &form[..24], two.as_slice());
+    equal(rt, &form[24..], [0xee, 0xee].as_slice());
 }
 
 /// Asserts that a short form of parent 128 is read as these entries.
 fn assert_short(rt: &(impl Abort + AllocGlobal), form: &str, rows: &str) {
-    let form = Row::new(form).bytes(rt, rt.alloc());
-    let read = must(rt, read_short_entries(rt.alloc(), 100, &form));
+    let alloc = rt.alloc();
+    let form = Row::new(form).bytes(rt, alloc);
+    let read = must(rt, read_short_entries(alloc, 100, &form));
     equal(rt, read.parent, 128);
     assert_entries(rt, &read.entries, rows);
 }
@@ -145,18 +148,20 @@ const FORMS: &str = "\
 
 #[test]
 fn short_form_rules(rt: HostRuntime) {
+    let rt = &rt;
+    let alloc = rt.alloc();
     for i in 0..line_count(CHANGED_FORMS) {
         let line = line_at(CHANGED_FORMS, i);
         let mut row = Row::new(line);
-        let mut form = Row::new(TWO).bytes(&rt, rt.alloc());
-        put_parts(&rt, &mut form, row.text());
-        is_read(&rt, &form, row.flag(&rt), line);
+        let mut form = Row::new(TWO).bytes(rt, alloc);
+        put_parts(rt, &mut form, row.text());
+        is_read(rt, &form, row.flag(rt), line);
     }
     for i in 0..line_count(FORMS) {
         let line = line_at(FORMS, i);
         let mut row = Row::new(line);
-        let form = row.bytes(&rt, rt.alloc());
-        is_read(&rt, &form, row.flag(&rt), line);
+        let form = row.bytes(rt, alloc);
+        is_read(rt, &form, row.flag(rt), line);
     }
 }
 
@@ -218,14 +223,15 @@ fn assert_span(rt: &impl Abort, span: &FreeSpan, line: &str) {
 
 #[test]
 fn real_blocks(rt: HostRuntime) {
-    assert_block(&rt, MADE, MADE_ENTRIES, "552 3544", false);
-    assert_block(&rt, WRITTEN, WRITTEN_ENTRIES, WRITTEN_FREE, true);
-    let entries = entries(&rt, rt.alloc(), MADE_ENTRIES);
+    let rt = &rt;
+    assert_block(rt, MADE, MADE_ENTRIES, "552 3544", false);
+    assert_block(rt, WRITTEN, WRITTEN_ENTRIES, WRITTEN_FREE, true);
+    let entries = entries(rt, rt.alloc(), MADE_ENTRIES);
     let mut block = [0; 4096];
-    equal(&rt, put_data(&entries, None, &mut block), 13);
+    equal(rt, put_data(&entries, None, &mut block), 13);
     let mut due = [0; 4096];
-    put_parts(&rt, &mut due, MADE);
-    equal(&rt, block, due);
+    put_parts(rt, &mut due, MADE);
+    equal(rt, block, due);
 }
 
 /// At byte offsets of the block that a kernel wrote, other bytes, and whether it is read then.
@@ -248,15 +254,16 @@ const CHANGED_BLOCKS: &str = "\
 
 #[test]
 fn data_block_rules(rt: HostRuntime) {
+    let rt = &rt;
     let mut whole = [0; 4096];
-    put_parts(&rt, &mut whole, WRITTEN);
+    put_parts(rt, &mut whole, WRITTEN);
     for i in 0..line_count(CHANGED_BLOCKS) {
         let line = line_at(CHANGED_BLOCKS, i);
         let mut row = Row::new(line);
         let mut block = whole;
-        put_parts(&rt, &mut block, row.text());
+        put_parts(rt, &mut block, row.text());
         let read = read_data(rt.alloc(), 100, &block, true);
-        equal_at(&rt, read.is_ok(), row.flag(&rt), line);
+        equal_at(rt, read.is_ok(), row.flag(rt), line);
     }
 }
 
@@ -289,20 +296,22 @@ const ENDS: &str = "\
 
 #[test]
 fn filled_blocks(rt: HostRuntime) {
-    let entries = entries(&rt, rt.alloc(), NAMED);
+    let rt = &rt;
+    let alloc = rt.alloc();
+    let entries = entries(rt, alloc, NAMED);
     for i in 0..line_count(ENDS) {
         let line = line_at(ENDS, i);
-        try_end(&rt, &entries, line);
+        try_end(rt, &entries, line);
     }
     let mut block = [0; 4096];
     equal(
-        &rt,
+        rt,
         put_data(&entries, Some((100, 128)), &mut block[..4048]),
         3,
     );
     put32(&mut block, 4088, 5);
-    let read = must(&rt, read_data(rt.alloc(), 100, &block, true));
-    assert_entries(&rt, &read.entries, ALL_NAMED);
+    let read = must(rt, read_data(alloc, 100, &block, true));
+    assert_entries(rt, &read.entries, ALL_NAMED);
 }
 
 /// Tries a block that ends where a line says.
@@ -322,14 +331,15 @@ fn try_end(rt: &impl Abort, entries: &[EntryRec], line: &str)
 
 #[test]
 fn largest_spans(rt: HostRuntime) {
+    let rt = &rt;
     let spans = [(64, 16), (96, 32), (160, 16), (200, 40), (300, 32)];
     let free = spans.map(|(offset, length)| FreeSpan { offset, length });
     let none = FreeSpan {
         offset: 0,
         length: 0,
     };
-    equal(&rt, bestfree(&[]), [none, none, none]);
-    equal(&rt, bestfree(&free[..1]), [free[0], none, none]);
-    equal(&rt, bestfree(&free[..3]), [free[1], free[0], free[2]]);
-    equal(&rt, bestfree(&free), [free[3], free[1], free[4]]);
+    equal(rt, bestfree(&[]), [none, none, none]);
+    equal(rt, bestfree(&free[..1]), [free[0], none, none]);
+    equal(rt, bestfree(&free[..3]), [free[1], free[0], free[2]]);
+    equal(rt, bestfree(&free), [free[3], free[1], free[4]]);
 }

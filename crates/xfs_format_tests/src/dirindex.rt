@@ -208,8 +208,9 @@ fn seen(
     ensures mapped { length result.blocks ≡ length result.offsets.items }
     ensures ascending { OffsetsAscend 0 result.offsets.items }
 {
-    let offsets = Row::new(offsets).numbers(rt, rt.alloc());
-    let mut blocks = must(rt, BlockBank::make(rt.alloc(), offsets.len()));
+    let alloc = rt.alloc();
+    let offsets = Row::new(offsets).numbers(rt, alloc);
+    let mut blocks = must(rt, BlockBank::make(alloc, offsets.len()));
     for parts in parts_of(form) {
         put_blocks(rt, &mut blocks, parts);
     }
@@ -238,26 +239,28 @@ pub fn check(alloc: Global, form: &str, dir: &DirSeen) -> Result<(), IndexFault>
 
 #[test]
 fn forms_of_directories(rt: HostRuntime) {
+    let rt = &rt;
     for i in 0..line_count(CASES) {
         let line = line_at(CASES, i);
         let mut row = Row::new(line);
         let (form, by) = (row.word(), row.word());
         let (answer, case) = (row.text(), row.text());
         let (size, offsets) = shape(form);
-        let dir = seen(&rt, form, size, offsets, row.text());
-        tells(&rt, &check(rt.alloc(), by, &dir), answer, case);
+        let dir = seen(rt, form, size, offsets, row.text());
+        tells(rt, &check(rt.alloc(), by, &dir), answer, case);
     }
 }
 
 #[test]
 fn shapes_of_directories(rt: HostRuntime) {
+    let rt = &rt;
     for i in 0..line_count(SHAPES) {
         let line = line_at(SHAPES, i);
         let mut row = Row::new(line);
         let (form, by) = (row.word(), row.word());
         let (answer, case) = (row.text(), row.text());
         let (size, offsets) = (row.text(), row.text());
-        let dir = seen(&rt, form, size, offsets, row.text());
-        tells(&rt, &check(rt.alloc(), by, &dir), answer, case);
+        let dir = seen(rt, form, size, offsets, row.text());
+        tells(rt, &check(rt.alloc(), by, &dir), answer, case);
     }
 }

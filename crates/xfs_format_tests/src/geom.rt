@@ -139,12 +139,13 @@ fn put_super(rt: &(impl Abort + AllocGlobal), disk: &mut MemoryDisk, mut row: Ro
 fn elect_of(rt: &(impl Abort + AllocGlobal), supers: &str) -> Result<Elected, ElectFault>
     ensures { IfOk result (λ e. IsAcceptedSector e.sector) }
 {
-    let mut disk = must(rt, MemoryDisk::make(rt.alloc(), 4096));
+    let alloc = rt.alloc();
+    let mut disk = must(rt, MemoryDisk::make(alloc, 4096));
     for i in 0..part_count(supers) {
         let row = part_at(supers, i);
         put_super(rt, &mut disk, row);
     }
-    elect(rt.alloc(), &mut disk)
+    elect(alloc, &mut disk)
 }
 
 /// At which blocks superblocks stand, and from which block what is elected is.
@@ -160,18 +161,20 @@ Err(Unsupported { word: 11, bits: 4 })
 
 #[test]
 fn elections(rt: HostRuntime) {
+    let rt = &rt;
     for i in 0..line_count(ELECTIONS) {
         let line = line_at(ELECTIONS, i);
         let mut row = Row::new(line);
         let case = row.text();
-        let elected = elect_of(&rt, row.text());
-        tells(&rt, &elected.map(|e| e.from), row.text(), case);
+        let elected = elect_of(rt, row.text());
+        tells(rt, &elected.map(|e| e.from), row.text(), case);
     }
 }
 
 #[test]
 fn writing(rt: HostRuntime) {
-    let sector = written(&rt);
+    let rt = &rt;
+    let sector = written(rt);
     let values = [
         RBMINO.read(&sector),
         RSUMINO.read(&sector),
@@ -180,8 +183,8 @@ fn writing(rt: HostRuntime) {
         FDBLOCKS.read(&sector),
         IMAX_PCT.read(&sector),
     ];
-    tells(&rt, &values, "[129, 130, 32, 29, 7, 25]", "written fields");
-    equal(&rt, read_super(&sector, 0, 2048).is_ok(), true);
+    tells(rt, &values, "[129, 130, 32, 29, 7, 25]", "written fields");
+    equal(rt, read_super(&sector, 0, 2048).is_ok(), true);
 }
 
 /// The superblock that is elected, written with other counts.
@@ -224,24 +227,25 @@ const FIXED: &str = "\
 
 #[test]
 fn conversions(rt: HostRuntime) {
-    let Ok(geometry) = read_super(&superblock(&rt, UNEVEN_GROUPS), 0, 2000) else {
-        refuse(&rt, "no superblock", "uneven groups");
+    let rt = &rt;
+    let Ok(geometry) = read_super(&superblock(rt, UNEVEN_GROUPS), 0, 2000) else {
+        refuse(rt, "no superblock", "uneven groups");
     };
-    equal(&rt, geometry.log, 1106);
+    equal(rt, geometry.log, 1106);
     for i in 0..line_count(ADDRESSES) {
         let line = line_at(ADDRESSES, i);
-        try_address(&rt, &geometry, line);
+        try_address(rt, &geometry, line);
     }
     for i in 0..line_count(FIXED) {
         let line = line_at(FIXED, i);
         let mut row = Row::new(line);
-        let block = row.number(&rt);
-        sure(&rt, block < geometry.dblocks, line);
-        equal_at(&rt, geometry.is_fixed(block), row.flag(&rt), line);
+        let block = row.number(rt);
+        sure(rt, block < geometry.dblocks, line);
+        equal_at(rt, geometry.is_fixed(block), row.flag(rt), line);
     }
-    sure(&rt, geometry.agcount == 2, "two groups");
-    equal(&rt, geometry.group_length(0), 1100);
-    equal(&rt, geometry.group_length(1), 900);
+    sure(rt, geometry.agcount == 2, "two groups");
+    equal(rt, geometry.group_length(0), 1100);
+    equal(rt, geometry.group_length(1), 900);
 }
 
 /// Tries an address of a line and an inode there.

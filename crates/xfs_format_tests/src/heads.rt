@@ -6,7 +6,7 @@ ghost use Rattle.xfs_word.specs.Seal.{layout_of};
 mod log;
 mod real;
 
-use crate::checks::{equal, equal_at, same, sure};
+use crate::checks::{compare_at, equal, equal_at, sure};
 use crate::text::{Row, line_at, line_count, refuse};
 use std::process::Abort;
 use xfs_geom::Geometry;
@@ -86,6 +86,7 @@ freeblks 7 true
 
 #[test]
 fn free_space(rt: HostRuntime) {
+    let rt = &rt;
     let g = volume();
     let header = Agf {
         magicnum: 0x5841_4746,
@@ -109,24 +110,19 @@ fn free_space(rt: HostRuntime) {
         lsn: 0,
         crc: 0,
     };
-    sure(&rt, header.is_shaped(&g, 0), "a header");
+    sure(rt, header.is_shaped(&g, 0), "a header");
     let mut sector = [0xff; 512];
     put_agf(&g, 0, &header, &mut sector);
-    equal(&rt, get32(&sector, 52), 1004);
+    equal(rt, get32(&sector, 52), 1004);
     let crc = stored_checksum(&sector, 216);
-    equal(&rt, read_agf(&g, 0, &sector), Some(Agf { crc, ..header }));
-    equal(&rt, read_agf(&g, 1, &sector), None);
+    equal(rt, read_agf(&g, 0, &sector), Some(Agf { crc, ..header }));
+    equal(rt, read_agf(&g, 1, &sector), None);
     for i in 0..line_count(CHANGED_AGF) {
         let line = line_at(CHANGED_AGF, i);
         let mut row = Row::new(line);
-        let at = offset_of(&rt, &agf::AGF, row.word());
-        let changed = with_number(&sector, SealKind::Agf, at, row.number(&rt));
-        equal_at(
-            &rt,
-            read_agf(&g, 0, &changed).is_some(),
-            row.flag(&rt),
-            line,
-        );
+        let at = offset_of(rt, &agf::AGF, row.word());
+        let changed = with_number(&sector, SealKind::Agf, at, row.number(rt));
+        equal_at(rt, read_agf(&g, 0, &changed).is_some(), row.flag(rt), line);
     }
 }
 
@@ -146,6 +142,7 @@ dirino 7 true
 
 #[test]
 fn inodes(rt: HostRuntime) {
+    let rt = &rt;
     let g = volume();
     let mut unlinked = [u32::MAX; 64];
     unlinked[63] = 131;
@@ -167,24 +164,19 @@ fn inodes(rt: HostRuntime) {
         free_root: 4,
         free_level: 1,
     };
-    sure(&rt, header.is_shaped(&g, 0), "a header");
+    sure(rt, header.is_shaped(&g, 0), "a header");
     let mut sector = [0xff; 512];
     put_agi(&g, 0, &header, &mut sector);
-    equal(&rt, get32(&sector, 292), 131);
+    equal(rt, get32(&sector, 292), 131);
     let crc = stored_checksum(&sector, 312);
-    equal(&rt, read_agi(&g, 0, &sector), Some(Agi { crc, ..header }));
-    equal(&rt, read_agi(&g, 1, &sector), None);
+    equal(rt, read_agi(&g, 0, &sector), Some(Agi { crc, ..header }));
+    equal(rt, read_agi(&g, 1, &sector), None);
     for i in 0..line_count(CHANGED_AGI) {
         let line = line_at(CHANGED_AGI, i);
         let mut row = Row::new(line);
-        let at = offset_of(&rt, &agi::AGI, row.word());
-        let changed = with_number(&sector, SealKind::Agi, at, row.number(&rt));
-        equal_at(
-            &rt,
-            read_agi(&g, 0, &changed).is_some(),
-            row.flag(&rt),
-            line,
-        );
+        let at = offset_of(rt, &agi::AGI, row.word());
+        let changed = with_number(&sector, SealKind::Agi, at, row.number(rt));
+        equal_at(rt, read_agi(&g, 0, &changed).is_some(), row.flag(rt), line);
     }
 }
 
@@ -232,21 +224,22 @@ fn list_sector(flfirst: u32, flcount: u32) -> [u8; 512]
 
 #[test]
 fn free_lists(rt: HostRuntime) {
+    let rt = &rt;
     let g = volume();
     for flfirst in 0..119 {
         for flcount in [0, 1, 6, 118, 119] {
             let sector = list_sector(flfirst, flcount);
             let Some(list) = read_agfl(&g, 0, &bounds(flfirst, flcount), &sector) else {
-                refuse(&rt, "a free list is refused", "")
+                refuse(rt, "a free list is refused", "")
             };
-            equal(&rt, list.count, flcount);
+            equal(rt, list.count, flcount);
             for (index, entry) in list.entries.iter().enumerate() {
                 let due = if index < flcount as usize {
                     6 + index as u32
                 } else {
                     u32::MAX
                 };
-                same!(rt; *entry, due; (flfirst, index));
+                compare_at(rt, entry, &due, &(flfirst, index));
             }
         }
     }

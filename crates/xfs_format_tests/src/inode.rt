@@ -162,20 +162,22 @@ const SLOTS: &str = "\
 
 #[test]
 fn slots(rt: HostRuntime) {
+    let rt = &rt;
     let g = geometry();
     for i in 0..line_count(SLOTS) {
         let line = line_at(SLOTS, i);
         let mut row = Row::new(line);
-        let ino = row.number(&rt);
+        let ino = row.number(rt);
         let (case, due) = (row.text(), row.text());
-        let mut slot = file_with(&rt, row.text());
-        put_parts(&rt, &mut slot, row.text());
-        tells(&rt, &refused(read_slot(&g, ino, &slot)), due, case);
+        let mut slot = file_with(rt, row.text());
+        put_parts(rt, &mut slot, row.text());
+        tells(rt, &refused(read_slot(&g, ino, &slot)), due, case);
     }
 }
 
 #[test]
 fn blank_slots(rt: HostRuntime) {
+    let rt = &rt;
     let g = volume(IDENTIFIER);
     let stamp = Stamp {
         seconds: 16,
@@ -185,25 +187,25 @@ fn blank_slots(rt: HostRuntime) {
     };
     let mut slot = [0xff; 512];
     free_slot(&g, 131, &stamp, &mut slot);
-    equal(&rt, read_slot(&g, 131, &slot), SlotRead::Free);
+    equal(rt, read_slot(&g, 131, &slot), SlotRead::Free);
     let mut due = [0; 512];
     put_parts(
-        &rt,
+        rt,
         &mut due,
         "0 494e, 4 03, 95 07ffffffff, 159 83, 160 00112233445566778899aabbccddeeff",
     );
     seal_file(&mut due);
-    equal(&rt, slot, due);
-    due = file_with(&rt, "");
+    equal(rt, slot, due);
+    due = file_with(rt, "");
     slot = [0xff; 512];
     fresh_slot(&g, &FRESH, &due[176..192], &mut slot);
     let crc = stored_checksum(&slot, 100);
     equal(
-        &rt,
+        rt,
         read_slot(&g, 131, &slot),
         SlotRead::InUse(Core { crc, ..FRESH }),
     );
-    equal(&rt, slot, due);
+    equal(rt, slot, due);
 }
 
 /// Tests that a slot is what is due, with zero from a byte on, these parts and its seal.
@@ -226,38 +228,39 @@ const FORKS: &str = "0 512, 6 224, 41 504";
 
 #[test]
 fn changed_slots(rt: HostRuntime) {
+    let rt = &rt;
     let g = geometry();
     let wanted = ForkWanted {
         format: 1,
         size: 2,
         nblocks: 5,
         nextents: 6,
-        bytes: Word::from_vec(must(&rt, vec![in rt.alloc(); 0xab, 0xcd])),
+        bytes: Word::from_vec(must(rt, vec![in rt.alloc(); 0xab, 0xcd])),
     };
     for i in 0..part_count(FORKS) {
         let mut row = part_at(FORKS, i);
         let mut slot = [0x5a; 512];
         let parts = "0 494e, 4 03, 152 0000000000000083, 160 00112233445566778899aabbccddeeff";
-        put_parts(&rt, &mut slot, parts);
-        slot[82] = row.number(&rt);
+        put_parts(rt, &mut slot, parts);
+        slot[82] = row.number(rt);
         let mut due = slot;
         seal_file(&mut slot);
         assert!(rt; sealed(&slot_seal(&g, 131), &slot));
         set_links(&g, 131, 9, &mut slot);
-        is_due(&rt, &slot, &mut due, 512, "16 00000009, 96 ffffffff");
-        sure(&rt, get8(&slot, 82) <= 41, parts);
+        is_due(rt, &slot, &mut due, 512, "16 00000009, 96 ffffffff");
+        sure(rt, get8(&slot, 82) <= 41, parts);
         drop_attrs(&g, 131, 3, &mut slot);
-        let end = row.number(&rt);
+        let end = row.number(rt);
         is_due(
-            &rt,
+            rt,
             &slot,
             &mut due,
             end,
             "64 0000000000000003, 80 0000, 83 02",
         );
-        sure(&rt, get8(&slot, 82) <= 41, parts);
+        sure(rt, get8(&slot, 82) <= 41, parts);
         set_fork(&g, 131, &wanted, &mut slot);
         let parts = "5 01, 56 0000000000000002, 71 05, 76 00000006, 176 abcd";
-        is_due(&rt, &slot, &mut due, 176, parts);
+        is_due(rt, &slot, &mut due, 176, parts);
     }
 }

@@ -5,7 +5,7 @@ ghost use Rattle.xfs_kinds.specs.FreeRuns.{span};
 
 mod hostile;
 
-use crate::checks::{equal, equal_at, must, same};
+use crate::checks::{compare_at, equal, equal_at, must};
 use crate::text::{Row, line_at, line_count, put_parts, tells};
 use std::cmp::Ordering;
 use std::process::Abort;
@@ -66,6 +66,7 @@ Layout { magic: 1112359219, long: true, high: false, record_len: 16, key_len: 8,
 
 #[test]
 fn layouts_of_kinds(rt: HostRuntime) {
+    let rt = &rt;
     let layouts = [
         tree_layout(&Bno { ag: 1 }),
         tree_layout(&Cnt { ag: 1 }),
@@ -74,12 +75,12 @@ fn layouts_of_kinds(rt: HostRuntime) {
         tree_layout(&Rmap { ag: 1 }),
         tree_layout(&Bmbt { ino: 9 }),
     ];
-    equal(&rt, line_count(LAYOUTS), layouts.len());
+    equal(rt, line_count(LAYOUTS), layouts.len());
     for (i, layout) in layouts.iter().enumerate() {
-        tells(&rt, layout, line_at(LAYOUTS, i), "a layout");
+        tells(rt, layout, line_at(LAYOUTS, i), "a layout");
     }
-    equal(&rt, Rmap { ag: 1 }.owner(), 1);
-    equal(&rt, Bmbt { ino: 9 }.owner(), 9);
+    equal(rt, Rmap { ag: 1 }.owner(), 1);
+    equal(rt, Bmbt { ino: 9 }.owner(), 9);
 }
 
 /// A run behind seven blocks from block 5 on, and whether both are lawful by their starts and by their lengths.
@@ -96,35 +97,36 @@ const FREE_RUNS: &str = "\
 
 #[test]
 fn free_trees(rt: HostRuntime) {
+    let rt = &rt;
     let g = volume();
     let (bno, cnt) = (Bno { ag: 0 }, Cnt { ag: 0 });
     let mut bytes = [0; 8];
     bno.put_record(&span(0x0102_0304, 5), &mut bytes);
-    tells(&rt, &bytes, "[1, 2, 3, 4, 0, 0, 0, 5]", "a run");
-    equal(&rt, cnt.read_key(&bytes), span(0x0102_0304, 5));
-    equal(&rt, bno.order(&span(7, 9), &span(8, 1)), Ordering::Less);
-    equal(&rt, cnt.order(&span(7, 9), &span(8, 1)), Ordering::Greater);
-    equal(&rt, cnt.order(&span(7, 9), &span(8, 9)), Ordering::Less);
+    tells(rt, &bytes, "[1, 2, 3, 4, 0, 0, 0, 5]", "a run");
+    equal(rt, cnt.read_key(&bytes), span(0x0102_0304, 5));
+    equal(rt, bno.order(&span(7, 9), &span(8, 1)), Ordering::Less);
+    equal(rt, cnt.order(&span(7, 9), &span(8, 1)), Ordering::Greater);
+    equal(rt, cnt.order(&span(7, 9), &span(8, 9)), Ordering::Less);
     for i in 0..line_count(FREE_RUNS) {
         let line = line_at(FREE_RUNS, i);
         let mut row = Row::new(line);
-        let run = span(row.number(&rt), row.number(&rt));
+        let run = span(row.number(rt), row.number(rt));
         equal_at(
-            &rt,
+            rt,
             bno.lawful(&g, Some(&span(5, 7)), &run),
-            row.flag(&rt),
+            row.flag(rt),
             line,
         );
         equal_at(
-            &rt,
+            rt,
             cnt.lawful(&g, Some(&span(5, 7)), &run),
-            row.flag(&rt),
+            row.flag(rt),
             line,
         );
     }
-    equal(&rt, bno.lawful(&g, None, &span(1, 1023)), true);
-    equal(&rt, cnt.lawful(&g, None, &span(0, 4)), false);
-    equal(&rt, Bno { ag: 2 }.lawful(&g, None, &span(12, 4)), false);
+    equal(rt, bno.lawful(&g, None, &span(1, 1023)), true);
+    equal(rt, cnt.lawful(&g, None, &span(0, 4)), false);
+    equal(rt, Bno { ag: 2 }.lawful(&g, None, &span(12, 4)), false);
 }
 
 /// The bytes of a whole chunk and of half a chunk.
@@ -150,6 +152,7 @@ const CHUNKS: &str = "\
 
 #[test]
 fn inode_trees(rt: HostRuntime) {
+    let rt = &rt;
     let g = volume();
     let whole = InoRec {
         startino: 128,
@@ -167,32 +170,27 @@ fn inode_trees(rt: HostRuntime) {
     };
     let mut bytes = [0; 16];
     Ino { ag: 0 }.put_record(&whole, &mut bytes);
-    tells(&rt, &bytes, WHOLE, "a whole chunk");
-    equal(&rt, Fino { ag: 0 }.read_record(&bytes), whole);
+    tells(rt, &bytes, WHOLE, "a whole chunk");
+    equal(rt, Fino { ag: 0 }.read_record(&bytes), whole);
     Fino { ag: 0 }.put_record(&half, &mut bytes);
-    tells(&rt, &bytes, HALF, "half a chunk");
+    tells(rt, &bytes, HALF, "half a chunk");
     let mut key = [0; 4];
     Ino { ag: 0 }.put_key(&half.startino, &mut key);
-    equal(&rt, Ino { ag: 0 }.read_key(&key), 64);
-    equal(&rt, Ino { ag: 0 }.lawful(&g, Some(&half), &whole), true);
-    equal(&rt, Ino { ag: 0 }.lawful(&g, Some(&whole), &half), false);
+    equal(rt, Ino { ag: 0 }.read_key(&key), 64);
+    equal(rt, Ino { ag: 0 }.lawful(&g, Some(&half), &whole), true);
+    equal(rt, Ino { ag: 0 }.lawful(&g, Some(&whole), &half), false);
     for i in 0..line_count(CHUNKS) {
         let line = line_at(CHUNKS, i);
         let mut row = Row::new(line);
-        let (ag, startino) = (row.number(&rt), row.number(&rt));
-        let (holemask, count) = (row.number(&rt), row.number(&rt));
+        let (ag, startino) = (row.number(rt), row.number(rt));
+        let (holemask, count) = (row.number(rt), row.number(rt));
         let chunk = InoRec {
             startino,
             holemask,
             count,
             ..half
         };
-        equal_at(
-            &rt,
-            Fino { ag }.lawful(&g, None, &chunk),
-            row.flag(&rt),
-            line,
-        );
+        equal_at(rt, Fino { ag }.lawful(&g, None, &chunk), row.flag(rt), line);
     }
 }
 
@@ -227,14 +225,15 @@ const DATA: RmapRec = RmapRec {
 
 #[test]
 fn owner_trees(rt: HostRuntime) {
+    let rt = &rt;
     let g = volume();
-    owner_records(&rt);
-    ends_at(&rt, 131, 5, 7);
-    ends_at(&rt, 131, TREE_BLOCK, TREE_BLOCK);
-    ends_at(&rt, AG, 0, 0);
+    owner_records(rt);
+    ends_at(rt, 131, 5, 7);
+    ends_at(rt, 131, TREE_BLOCK, TREE_BLOCK);
+    ends_at(rt, AG, 0, 0);
     for i in 0..line_count(OWNED_RUNS) {
         let line = line_at(OWNED_RUNS, i);
-        try_owned_run(&rt, &g, line);
+        try_owned_run(rt, &g, line);
     }
 }
 
@@ -260,7 +259,12 @@ fn ends_at(rt: &impl Abort, owner: u64, word: u64, last: u64) {
         offset_word: word,
         ..DATA
     };
-    same!(*rt; Rmap { ag: 0 }.high_key(&run).offset_word, last; (owner, word));
+    compare_at(
+        rt,
+        &Rmap { ag: 0 }.high_key(&run).offset_word,
+        &last,
+        &(owner, word),
+    );
 }
 
 /// Tries a run of a line behind the record.
@@ -289,16 +293,17 @@ const ITS_LOW_KEY: &str = "0 0000023d0000000000000094200000000000002c";
 
 #[test]
 fn keys_of_a_kernel(rt: HostRuntime) {
+    let rt = &rt;
     let rmap = Rmap { ag: 0 };
     let mut record = [0; 24];
     let mut key = [0; 20];
-    put_parts(&rt, &mut record, UNWRITTEN_RECORD);
+    put_parts(rt, &mut record, UNWRITTEN_RECORD);
     rmap.put_key(&rmap.high_key(&rmap.read_record(&record)), &mut key);
-    tells(&rt, &key, ITS_HIGH_KEY, "the high key");
-    put_parts(&rt, &mut record, WRITTEN_RECORD);
-    put_parts(&rt, &mut key, ITS_LOW_KEY);
+    tells(rt, &key, ITS_HIGH_KEY, "the high key");
+    put_parts(rt, &mut record, WRITTEN_RECORD);
+    put_parts(rt, &mut key, ITS_LOW_KEY);
     let run = rmap.read_record(&record);
-    equal(&rt, rmap.read_key(&key), rmap.low_key(&run));
+    equal(rt, rmap.read_key(&key), rmap.low_key(&run));
 }
 
 /// The bytes of an extent.
@@ -328,11 +333,12 @@ const FIRST: Extent = Extent {
 
 #[test]
 fn extent_trees(rt: HostRuntime) {
+    let rt = &rt;
     let g = volume();
-    extent_records(&rt);
+    extent_records(rt);
     for i in 0..line_count(EXTENTS) {
         let line = line_at(EXTENTS, i);
-        try_extent(&rt, &g, line);
+        try_extent(rt, &g, line);
     }
 }
 
@@ -363,6 +369,8 @@ fn try_extent(rt: &impl Abort, g: &Geometry, line: &str) {
 
 #[test]
 fn free_runs_of_a_group(rt: HostRuntime) {
+    let rt = &rt;
+    let alloc = rt.alloc();
     let used = [
         span(0, 1),
         span(1, 1),
@@ -374,15 +382,15 @@ fn free_runs_of_a_group(rt: HostRuntime) {
         span(16, 4),
         span(20, 4),
     ];
-    let free = must(&rt, free_runs(rt.alloc(), &used, 1024));
+    let free = must(rt, free_runs(alloc, &used, 1024));
     equal(
-        &rt,
+        rt,
         free.as_slice(),
         [span(12, 4), span(24, 1000)].as_slice(),
     );
     let used = [span(3, 0), span(5, 2), span(9, u32::MAX)];
-    let free = must(&rt, free_runs(rt.alloc(), &used, 8));
-    equal(&rt, free.as_slice(), [span(0, 5), span(7, 1)].as_slice());
+    let free = must(rt, free_runs(alloc, &used, 8));
+    equal(rt, free.as_slice(), [span(0, 5), span(7, 1)].as_slice());
 }
 
 /// The offset words of a run of two blocks and of the block behind it, and how many blocks the first merged run has.
@@ -397,6 +405,8 @@ const PAIRS: &str = "\
 
 #[test]
 fn merged_runs_of_a_group(rt: HostRuntime) {
+    let rt = &rt;
+    let alloc = rt.alloc();
     let run = |start, count, owner, offset| Run {
         start,
         count,
@@ -414,7 +424,7 @@ fn merged_runs_of_a_group(rt: HostRuntime) {
         run(16, 4, INODES, 0),
         run(20, 4, INODES, 0),
     ];
-    let merged = must(&rt, merge_runs(rt.alloc(), &runs));
+    let merged = must(rt, merge_runs(alloc, &runs));
     let expected = [
         run(0, 1, FS, 0),
         run(1, 2, AG, 0),
@@ -422,17 +432,17 @@ fn merged_runs_of_a_group(rt: HostRuntime) {
         run(5, 7, AG, 0),
         run(16, 8, INODES, 0),
     ];
-    equal(&rt, merged.as_slice(), expected.as_slice());
+    equal(rt, merged.as_slice(), expected.as_slice());
     for i in 0..line_count(PAIRS) {
         let line = line_at(PAIRS, i);
         let mut row = Row::new(line);
-        let (offset, next) = (row.number(&rt), row.number(&rt));
+        let (offset, next) = (row.number(rt), row.number(rt));
         let pair = [run(24, 2, 131, offset), run(26, 1, 131, next)];
-        let merged = must(&rt, merge_runs(rt.alloc(), &pair));
+        let merged = must(rt, merge_runs(alloc, &pair));
         equal_at(
-            &rt,
+            rt,
             merged.first(),
-            Some(&run(24, row.number(&rt), 131, offset)),
+            Some(&run(24, row.number(rt), 131, offset)),
             line,
         );
     }

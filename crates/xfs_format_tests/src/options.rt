@@ -52,22 +52,24 @@ V;-x | Offends(2)
 
 #[test]
 fn lines_of_the_debugger(rt: HostRuntime) {
+    let rt = &rt;
+    let alloc = rt.alloc();
     for i in 0..line_count(DEBUGGER) {
         let line = line_at(DEBUGGER, i);
         let mut row = Row::new(line);
-        let words = words(&rt, rt.alloc(), row.text());
-        match read_debug_words(rt.alloc(), &words) {
+        let words = words(rt, alloc, row.text());
+        match read_debug_words(alloc, &words) {
             Ok(read) => {
                 equal_at(
-                    &rt,
+                    rt,
                     (read.read_only, read.expert),
-                    (row.flag(&rt), row.flag(&rt)),
+                    (row.flag(rt), row.flag(rt)),
                     line,
                 );
-                let commands = text_of(&rt, rt.alloc(), &read.commands);
-                equal_at(&rt, commands.as_slice(), row.text().as_bytes(), line);
+                let commands = text_of(rt, alloc, &read.commands);
+                equal_at(rt, commands.as_slice(), row.text().as_bytes(), line);
             }
-            Err(fault) => tells(&rt, &fault, row.text(), line),
+            Err(fault) => tells(rt, &fault, row.text(), line),
         }
     }
 }
@@ -109,11 +111,13 @@ V | [None, None, None, None, None]
 
 #[test]
 fn lines_of_the_maker(rt: HostRuntime) {
+    let rt = &rt;
+    let alloc = rt.alloc();
     for i in 0..line_count(MAKER) {
         let line = line_at(MAKER, i);
         let mut row = Row::new(line);
-        let words = words(&rt, rt.alloc(), row.text());
-        match read_make_words(rt.alloc(), &words) {
+        let words = words(rt, alloc, row.text());
+        match read_make_words(alloc, &words) {
             Ok(MakeLine { options, .. }) => {
                 let numbers = [
                     options.blocks,
@@ -122,22 +126,24 @@ fn lines_of_the_maker(rt: HostRuntime) {
                     options.logblocks,
                     options.generate.map(u64::from),
                 ];
-                tells(&rt, &numbers, row.text(), line);
+                tells(rt, &numbers, row.text(), line);
             }
-            Err(fault) => tells(&rt, &fault, row.text(), line),
+            Err(fault) => tells(rt, &fault, row.text(), line),
         }
     }
 }
 
 #[test]
 fn values_of_the_maker(rt: HostRuntime) {
+    let rt = &rt;
+    let alloc = rt.alloc();
     let words = words(
-        &rt,
-        rt.alloc(),
+        rt,
+        alloc,
         "-fL;a;-m;uuid=00112233-4455-6677-8899-aabbccddeeff;-pP;-qLb c;V",
     );
-    let Ok(MakeLine { options, quiet }) = read_make_words(rt.alloc(), &words) else {
-        refuse(&rt, "the words are refused", "")
+    let Ok(MakeLine { options, quiet }) = read_make_words(alloc, &words) else {
+        refuse(rt, "the words are refused", "")
     };
     let MakeOptions {
         uuid: given,
@@ -147,11 +153,11 @@ fn values_of_the_maker(rt: HostRuntime) {
         ..
     } = options;
     let due = "Some([0, 17, 34, 51, 68, 85, 102, 119, 136, 153, 170, 187, 204, 221, 238, 255])";
-    tells(&rt, &given, due, "the identifier");
-    equal(&rt, label.bytes(), b"b c".as_slice());
+    tells(rt, &given, due, "the identifier");
+    equal(rt, label.bytes(), b"b c".as_slice());
     let Some(proto) = proto else {
-        refuse(&rt, "no protofile is named", "")
+        refuse(rt, "no protofile is named", "")
     };
-    equal(&rt, proto.bytes(), b"P".as_slice());
-    equal(&rt, (force, quiet), (true, true));
+    equal(rt, proto.bytes(), b"P".as_slice());
+    equal(rt, (force, quiet), (true, true));
 }

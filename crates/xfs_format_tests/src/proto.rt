@@ -141,16 +141,18 @@ x 0 0 d--755 0 0;<200*d d--755 0 0;><201*$ >;;$ | Bad { line: 204, reason: 6 }
 
 #[test]
 fn protofiles(rt: HostRuntime) {
+    let rt = &rt;
+    let alloc = rt.alloc();
     for i in 0..line_count(WHOLE) {
         let line = line_at(WHOLE, i);
         let mut row = Row::new(line);
-        let text = expanded(&rt, rt.alloc(), row.text());
-        match read_proto(rt.alloc(), &text) {
+        let text = expanded(rt, alloc, row.text());
+        match read_proto(alloc, &text) {
             Ok(proto) => {
-                let held = text_of(&rt, rt.alloc(), proto.nodes.as_slice());
-                equal_at(&rt, held.as_str(), row.text(), line);
+                let held = text_of(rt, alloc, proto.nodes.as_slice());
+                equal_at(rt, held.as_str(), row.text(), line);
             }
-            Err(fault) => tells(&rt, &fault, row.text(), line),
+            Err(fault) => tells(rt, &fault, row.text(), line),
         }
     }
 }
@@ -166,22 +168,24 @@ x 0 0 d--755 0 0;<300*d d--755 0 0;><300*$;a ---644 0 0 src;>$ | 601 | 0 a 10064
 
 #[test]
 fn long_protofiles(rt: HostRuntime) {
+    let rt = &rt;
+    let alloc = rt.alloc();
     for i in 0..line_count(LONG) {
         let line = line_at(LONG, i);
         let mut row = Row::new(line);
-        let text = expanded(&rt, rt.alloc(), row.text());
-        match read_proto(rt.alloc(), &text) {
+        let text = expanded(rt, alloc, row.text());
+        match read_proto(alloc, &text) {
             Ok(proto) => {
                 let nodes = proto.nodes.as_slice();
-                equal_at(&rt, nodes.len(), row.number::<usize>(&rt), line);
-                let mut last = String::new(rt.alloc());
+                equal_at(rt, nodes.len(), row.number::<usize>(rt), line);
+                let mut last = String::new(alloc);
                 if let Some(node) = nodes.last() {
-                    must(&rt, write_node(&mut last, node));
+                    must(rt, write_node(&mut last, node));
                 }
-                let due = expanded(&rt, rt.alloc(), row.text());
-                equal_at(&rt, last.as_bytes(), due.as_slice(), line);
+                let due = expanded(rt, alloc, row.text());
+                equal_at(rt, last.as_bytes(), due.as_slice(), line);
             }
-            Err(fault) => tells(&rt, &fault, "", line),
+            Err(fault) => tells(rt, &fault, "", line),
         }
     }
 }

@@ -46,10 +46,12 @@ fn other_blocks(rt: &impl Abort, alloc: Global, first: &BlockList) -> BlockList
 
 #[test]
 fn blocks_of_two_lists(rt: HostRuntime) {
-    let first = three_blocks(&rt, rt.alloc());
-    let second = other_blocks(&rt, rt.alloc(), &first);
-    equal(&rt, second.len(), 3);
-    assert_blocks(&rt, &first, "3 3, 4 3, 5 5");
+    let rt = &rt;
+    let alloc = rt.alloc();
+    let first = three_blocks(rt, alloc);
+    let second = other_blocks(rt, alloc, &first);
+    equal(rt, second.len(), 3);
+    assert_blocks(rt, &first, "3 3, 4 3, 5 5");
     drop(first);
-    assert_blocks(&rt, &second, "4 3, 5 5, 0 0");
+    assert_blocks(rt, &second, "4 3, 5 5, 0 0");
 }

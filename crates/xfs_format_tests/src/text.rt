@@ -10,9 +10,9 @@
 //!
 //! for i in 0..line_count(RUNS) {
 //!     let mut row = Row::new(line_at(RUNS, i));
-//!     let (case, start, count) = (row.text(), row.number(&rt), row.number(&rt));
-//!     row.tells_flag(&rt, set.meets(start, count), case);
-//!     tells(&rt, &set.first(start), row.text(), case);
+//!     let (case, start, count) = (row.text(), row.number(rt), row.number(rt));
+//!     row.tells_flag(rt, set.meets(start, count), case);
+//!     tells(rt, &set.first(start), row.text(), case);
 //! }
 //! ```
 //!
@@ -27,7 +27,7 @@ use std::fmt::Debug;
 use std::process::Abort;
 
 /// The fields of a line that are not read yet.
-#[derive(Clone, Copy, Debug)]
+#[derive(Clone, Copy)]
 pub struct Row<'a> {
     line: &'a str,
     rest: &'a str,

@@ -31,18 +31,19 @@ const SIZES: &str = "\
 
 #[test]
 fn sizes(rt: HostRuntime) {
+    let rt = &rt;
     for i in 0..line_count(SIZES) {
         let line = line_at(SIZES, i);
         let mut row = Row::new(line);
-        let (leaf_cap, node_cap) = (row.number(&rt), row.number(&rt));
-        let records = row.number(&rt);
-        sure(&rt, leaf_cap > 0, line);
-        sure(&rt, node_cap > 1, line);
-        sure(&rt, records < 1 << 62, line);
+        let (leaf_cap, node_cap) = (row.number(rt), row.number(rt));
+        let records = row.number(rt);
+        sure(rt, leaf_cap > 0, line);
+        sure(rt, node_cap > 1, line);
+        sure(rt, records < 1 << 62, line);
         equal_at(
-            &rt,
+            rt,
             tree_size(leaf_cap, node_cap, records),
-            row.number(&rt),
+            row.number(rt),
             line,
         );
     }
@@ -50,17 +51,18 @@ fn sizes(rt: HostRuntime) {
 
 #[test]
 fn a_kind(rt: HostRuntime) {
+    let rt = &rt;
     let kind = Numbers { ag: 3 };
     let layout = tree_layout(&kind);
-    equal(&rt, layout.header_len(), 56);
-    equal(&rt, layout.pointer_len(), 4);
-    equal(&rt, layout.leaf_cap, 3);
-    equal(&rt, kind.owner(), 3);
+    equal(rt, layout.header_len(), 56);
+    equal(rt, layout.pointer_len(), 4);
+    equal(rt, layout.leaf_cap, 3);
+    equal(rt, kind.owner(), 3);
     let mut bytes = [0; 4];
     kind.put_record(&0x0102_0304, &mut bytes);
-    tells(&rt, &bytes, "[1, 2, 3, 4]", "a number");
-    equal(&rt, kind.read_record(&bytes), 0x0102_0304);
-    equal(&rt, kind.order(&7, &8), Ordering::Less);
+    tells(rt, &bytes, "[1, 2, 3, 4]", "a number");
+    equal(rt, kind.read_record(&bytes), 0x0102_0304);
+    equal(rt, kind.order(&7, &8), Ordering::Less);
 }
 
 /// Places of blocks in the first group.
@@ -121,13 +123,14 @@ fn assert_rows(rt: &(impl Abort + AllocGlobal), part: &[u8], blocks: &str) {
 
 #[test]
 fn packed_blocks(rt: HostRuntime) {
-    assert_packed(&rt, &[], "0 0");
-    assert_packed(&rt, &[5], "0 1");
-    assert_packed(&rt, &[5, 6, 7], "0 3");
-    assert_packed(&rt, &[5, 6, 7, 9], "0 2, 0 2, 1 2");
-    assert_packed(&rt, &[1, 2, 3, 4, 5, 6, 7], "0 3, 0 2, 0 2, 1 2, 1 1, 2 2");
+    let rt = &rt;
+    assert_packed(rt, &[], "0 0");
+    assert_packed(rt, &[5], "0 1");
+    assert_packed(rt, &[5, 6, 7], "0 3");
+    assert_packed(rt, &[5, 6, 7, 9], "0 2, 0 2, 1 2");
+    assert_packed(rt, &[1, 2, 3, 4, 5, 6, 7], "0 3, 0 2, 0 2, 1 2, 1 1, 2 2");
     assert_packed(
-        &rt,
+        rt,
         &[1, 2, 3, 4, 5, 6, 7, 8, 9, 10, 11, 12, 13],
         "0 3, 0 3, 0 3, 0 2, 0 2, 1 2, 1 2, 1 1, 2 2, 2 1, 3 2",
     );

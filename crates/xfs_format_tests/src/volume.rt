@@ -46,9 +46,11 @@ fn blocks_hold(rt: &impl Abort, alloc: Global) {
 
 #[test]
 fn lists(rt: HostRuntime) {
-    hold(&rt, &grown(&rt, rt.alloc()), &[FIRST, SECOND]);
-    let list = must(&rt, vec![in rt.alloc(); FIRST]);
-    let list = must(&rt, Extents::from_vec(rt.alloc(), list));
-    hold(&rt, &list, &[FIRST]);
-    blocks_hold(&rt, rt.alloc());
+    let rt = &rt;
+    let alloc = rt.alloc();
+    hold(rt, &grown(rt, alloc), &[FIRST, SECOND]);
+    let list = must(rt, vec![in alloc; FIRST]);
+    let list = must(rt, Extents::from_vec(alloc, list));
+    hold(rt, &list, &[FIRST]);
+    blocks_hold(rt, alloc);
 }

@@ -13,26 +13,28 @@ const UUID: [u8; 16] = [1, 2, 3, 4, 5, 6, 7, 8, 9, 10, 11, 12, 13, 14, 15, 16];
 
 #[test]
 fn checksums(rt: HostRuntime) {
-    equal(&rt, crc32c(b"123456789"), 0xe306_9283);
-    equal(&rt, crc32c(&[0; 32]), 0x8a91_36aa);
-    equal(&rt, crc32c(&[]), 0);
+    let rt = &rt;
+    equal(rt, crc32c(b"123456789"), 0xe306_9283);
+    equal(rt, crc32c(&[0; 32]), 0x8a91_36aa);
+    equal(rt, crc32c(&[]), 0);
     let mut bytes = [0; 32];
     put32(&mut bytes, 13, 0x1234_5678);
-    equal(&rt, crc_skipping(&bytes, 13), 0x8a91_36aa);
+    equal(rt, crc_skipping(&bytes, 13), 0x8a91_36aa);
     put_checksum(&mut bytes, 13);
-    equal(&rt, stored_checksum(&bytes, 13), 0x8a91_36aa);
-    equal(&rt, get32(&bytes, 13), 0xaa36_918a);
-    equal(&rt, is_checksum_right(&bytes, 13), true);
+    equal(rt, stored_checksum(&bytes, 13), 0x8a91_36aa);
+    equal(rt, get32(&bytes, 13), 0xaa36_918a);
+    equal(rt, is_checksum_right(&bytes, 13), true);
 }
 
 #[test]
 fn fields_extents_and_names(rt: HostRuntime) {
+    let rt = &rt;
     let mut bytes = [0x11, 0x22, 0x33, 0x44, 0x55, 0x66, 0x77, 0x88, 0x99];
-    equal(&rt, get8(&bytes, 1), 0x22);
-    equal(&rt, get16(&bytes, 1), 0x2233);
-    equal(&rt, get32(&bytes, 1), 0x2233_4455);
-    equal(&rt, get64(&bytes, 1), 0x2233_4455_6677_8899);
-    equal(&rt, part(&bytes, 7, 2), [0x88, 0x99].as_slice());
+    equal(rt, get8(&bytes, 1), 0x22);
+    equal(rt, get16(&bytes, 1), 0x2233);
+    equal(rt, get32(&bytes, 1), 0x2233_4455);
+    equal(rt, get64(&bytes, 1), 0x2233_4455_6677_8899);
+    equal(rt, part(&bytes, 7, 2), [0x88, 0x99].as_slice());
     put8(&mut bytes, 0, 0xff);
     put16(&mut bytes, 1, 1);
     put_part(&mut bytes, 6, &[5, 6]);
@@ -43,10 +45,10 @@ fn fields_extents_and_names(rt: HostRuntime) {
         form: Form::Decimal,
     };
     layout.write(&mut bytes, 0x0102);
-    equal(&rt, bytes, [0xff, 0, 1, 0x44, 1, 2, 5, 6, 0x99]);
-    equal(&rt, layout.read(&bytes), 0x0102);
-    extents(&rt);
-    hashes_of_names(&rt);
+    equal(rt, bytes, [0xff, 0, 1, 0x44, 1, 2, 5, 6, 0x99]);
+    equal(rt, layout.read(&bytes), 0x0102);
+    extents(rt);
+    hashes_of_names(rt);
 }
 
 /// Packs and unpacks an extent.
@@ -184,8 +186,9 @@ fn try_wrong(rt: &(impl Abort + AllocGlobal), what: &Seal, object: &mut [u8], mu
 
 #[test]
 fn seals_of_each_kind(rt: HostRuntime) {
-    equal(&rt, line_count(SEALS), KINDS.len());
+    let rt = &rt;
+    equal(rt, line_count(SEALS), KINDS.len());
     for (i, kind) in KINDS.iter().enumerate() {
-        check(&rt, *kind, Row::new(line_at(SEALS, i)));
+        check(rt, *kind, Row::new(line_at(SEALS, i)));
     }
 }

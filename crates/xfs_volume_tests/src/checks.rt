@@ -44,15 +44,3 @@ pub fn must<T, E: Drop>(rt: &impl Abort, held: Result<T, E>) -> T
         Err(_) => panic!(rt; "a call fails that has to succeed"),
     }
 }
-
-/// `same!(rt; held, due)`, or with a place that a failure names, `same!(rt; held, due; place)`.
-macro_rules! same {
-    ($rt:expr; $held:expr, $due:expr $(,)?) => {
-        $crate::checks::compare(&$rt, &$held, &$due)
-    };
-    ($rt:expr; $held:expr, $due:expr; $place:expr $(,)?) => {
-        $crate::checks::compare_at(&$rt, &$held, &$due, &$place)
-    };
-}
-
-pub(crate) use same;

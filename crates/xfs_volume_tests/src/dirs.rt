@@ -165,11 +165,12 @@ fn single_block_form(rt: HostRuntime) {
 
 /// Tries a single block with its changes, in an extent that is unwritten or not.
 fn try_single(rt: &(impl Abort + AllocGlobal), unwritten: bool, line: &str) {
+    let alloc = rt.alloc();
     let mut row = Row::new(line);
     let name = row.text();
-    let mut disk = Untold::make(rt, rt.alloc());
+    let mut disk = Untold::make(rt, alloc);
     put_single(rt, &mut disk, (row.text(), row.text()));
-    let file = directory(rt, rt.alloc(), CORE, 1, unwritten);
+    let file = directory(rt, alloc, CORE, 1, unwritten);
     let found = found_of(rt, &mut disk, &[0; 512], &file, name);
     equal_at(rt, found.whole, row.flag(rt), name);
     tells_kept(rt, &found, row.flag(rt), name);
@@ -207,15 +208,13 @@ fn tells_kept(rt: &impl Abort, found: &DirFound, kept: bool, case: &str) {
 
 /// Writes the blocks 24 and 25, with an entry, and with `..` and another one.
 fn put_two(rt: &(impl Abort + AllocGlobal), disk: &mut Untold) {
+    let alloc = rt.alloc();
     let mut block = [0; BLOCK_SIZE];
-    let first = [entry(rt, rt.alloc(), b"a", 140)];
+    let first = [entry(rt, alloc, b"a", 140)];
     put_data(&first, Some((131, 0)), &mut block);
     put_block(rt, disk, 24, 0x5844_4433, ("", ""), &mut block);
     let mut block = [0; BLOCK_SIZE];
-    let second = [
-        entry(rt, rt.alloc(), b"..", 129),
-        entry(rt, rt.alloc(), b"b", 141),
-    ];
+    let second = [entry(rt, alloc, b"..", 129), entry(rt, alloc, b"b", 141)];
     put_data(&second, None, &mut block);
     put_block(rt, disk, 25, 0x5844_4433, ("", ""), &mut block);
 }
@@ -226,16 +225,18 @@ EntryRec { dir: 131, name: Word { bytes: [98] }, ino: 141, ftype: 1 }]";
 
 #[test]
 fn two_data_blocks(rt: HostRuntime) {
-    let mut disk = Untold::make(&rt, rt.alloc());
-    put_two(&rt, &mut disk);
-    let file = directory(&rt, rt.alloc(), CORE, 2, false);
-    let found = found_of(&rt, &mut disk, &[0; 512], &file, "two data blocks");
-    equal(&rt, (found.whole, found.parent), (false, 0));
-    tells(&rt, &found.entries.as_slice(), TWO, "two data blocks");
-    must(&rt, disk.disk.fail(2));
-    let fault = read(&rt, rt.alloc(), &mut disk, &[0; 512], &file);
+    let rt = &rt;
+    let alloc = rt.alloc();
+    let mut disk = Untold::make(rt, alloc);
+    put_two(rt, &mut disk);
+    let file = directory(rt, alloc, CORE, 2, false);
+    let found = found_of(rt, &mut disk, &[0; 512], &file, "two data blocks");
+    equal(rt, (found.whole, found.parent), (false, 0));
+    tells(rt, &found.entries.as_slice(), TWO, "two data blocks");
+    must(rt, disk.disk.fail(2));
+    let fault = read(rt, alloc, &mut disk, &[0; 512], &file);
     sure(
-        &rt,
+        rt,
         matches!(fault, Err(DirectoryFault::ReadFault)),
         "a read that fails",
     );
@@ -253,17 +254,19 @@ const SIZES: &str = "\
 
 #[test]
 fn short_form(rt: HostRuntime) {
+    let rt = &rt;
     let mut slot = [0; 512];
-    let entries = [entry(&rt, rt.alloc(), b"a", 140)];
+    let entries = [entry(rt, rt.alloc(), b"a", 140)];
     put_short(128, &entries, &mut slot[176..]);
     for i in 0..line_count(SIZES) {
         let line = line_at(SIZES, i);
-        try_size(&rt, &slot, line);
+        try_size(rt, &slot, line);
     }
 }
 
 /// Tries a short form with the size of a line.
 fn try_size(rt: &(impl Abort + AllocGlobal), slot: &[u8; 512], line: &str) {
+    let alloc = rt.alloc();
     let mut row = Row::new(line);
     let core = Core {
         format: 1,
@@ -271,8 +274,8 @@ fn try_size(rt: &(impl Abort + AllocGlobal), slot: &[u8; 512], line: &str) {
         ..CORE
     };
     let whole = row.flag(rt);
-    let file = directory(rt, rt.alloc(), core, 1, false);
-    let mut disk = Untold::make(rt, rt.alloc());
+    let file = directory(rt, alloc, core, 1, false);
+    let mut disk = Untold::make(rt, alloc);
     let found = found_of(rt, &mut disk, slot, &file, line);
     equal_at(rt, found.whole, whole, line);
     tells_kept(rt, &found, whole, line);

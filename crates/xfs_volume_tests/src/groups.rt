@@ -3,7 +3,7 @@
 
 ghost use Rattle.std.specs.Prelude.{◌≡◌, ◌<◌, ◌≤◌};
 
-use crate::checks::{equal_at, must, same, sure};
+use crate::checks::{compare_at, equal_at, must, sure};
 use crate::small_volume::{put, volume};
 use crate::text::{Row, line_at, line_count, refuse, tells};
 use std::alloc::Global;
@@ -200,11 +200,12 @@ fn groups(rt: HostRuntime) {
 }
 
 fn try_lost<R: Abort + AllocGlobal + Threads + Sync>(rt: &R, line: &str) {
+    let alloc = rt.alloc();
     let mut row = Row::new(line);
-    let lost = row.numbers::<u64>(rt, rt.alloc());
-    let mut disk = disk(rt, rt.alloc(), &lost);
+    let lost = row.numbers::<u64>(rt, alloc);
+    let mut disk = disk(rt, alloc, &lost);
     put_unnamed(rt, &mut disk);
-    match seen(rt, rt.alloc(), &mut disk) {
+    match seen(rt, alloc, &mut disk) {
         Ok(seen) => is_found(rt, &seen, &mut row, line),
         Err(_) => refuse(rt, "the groups are not seen", line),
     }
@@ -226,8 +227,14 @@ fn failing_reads(rt: HostRuntime) {
 }
 
 fn try_failing<R: Abort + AllocGlobal + Threads + Sync>(rt: &R, call: u64) {
-    let mut disk = disk(rt, rt.alloc(), &[3, 5]);
+    let alloc = rt.alloc();
+    let mut disk = disk(rt, alloc, &[3, 5]);
     must(rt, disk.fail(call));
-    let seen = seen(rt, rt.alloc(), &mut disk);
-    same!(*rt; matches!(seen, Err(GroupsFault::ReadFault)), true; call);
+    let seen = seen(rt, alloc, &mut disk);
+    compare_at(
+        rt,
+        &matches!(seen, Err(GroupsFault::ReadFault)),
+        &true,
+        &call,
+    );
 }

@@ -104,10 +104,11 @@ fn numbers(rt: HostRuntime) {
 }
 
 fn try_numbers(rt: &(impl Abort + AllocGlobal), line: &str) {
+    let alloc = rt.alloc();
     let mut row = Row::new(line);
-    let files = [file(rt, rt.alloc(), row.number(rt), row.number(rt))];
-    let lsns = numbers_in(rt, rt.alloc(), &files, line);
-    let mut found = Vec::new(rt.alloc());
+    let files = [file(rt, alloc, row.number(rt), row.number(rt))];
+    let lsns = numbers_in(rt, alloc, &files, line);
+    let mut found = Vec::new(alloc);
     for number in lsns.as_slice() {
         must(rt, found.push((number.block, number.lsn)));
     }
@@ -148,14 +149,15 @@ const LOGS: &str = "\
 
 #[test]
 fn logs(rt: HostRuntime) {
+    let rt = &rt;
     for i in 0..line_count(LOGS) {
         let line = line_at(LOGS, i);
         let mut row = Row::new(line);
-        let state = state_with(&rt, rt.alloc(), row.number(&rt), line);
+        let state = state_with(rt, rt.alloc(), row.number(rt), line);
         equal_at(
-            &rt,
+            rt,
             state == LogState::Clean { head: 1 << 32 },
-            row.flag(&rt),
+            row.flag(rt),
             line,
         );
     }

@@ -19,14 +19,18 @@ use xfs_volume::{Catalog, Law, LawFault};
 
 #[test]
 fn changed_volumes(rt: HostRuntime) {
-    try_rows(&rt, rt.alloc(), EMPTY, CHANGES_OF_EMPTY);
-    try_rows(&rt, rt.alloc(), WITH_FILES, CHANGES);
+    let rt = &rt;
+    let alloc = rt.alloc();
+    try_rows(rt, alloc, EMPTY, CHANGES_OF_EMPTY);
+    try_rows(rt, alloc, WITH_FILES, CHANGES);
 }
 
 #[test]
 fn many_files(rt: HostRuntime) {
-    let volume = must(&rt, with_more_files(rt.alloc()));
-    try_rows(&rt, rt.alloc(), volume.as_str(), CHANGES_OF_MANY);
+    let rt = &rt;
+    let alloc = rt.alloc();
+    let volume = must(rt, with_more_files(alloc));
+    try_rows(rt, alloc, volume.as_str(), CHANGES_OF_MANY);
 }
 
 /// The volume with two files and many empty ones, of which no chunk tells.

@@ -1,7 +1,7 @@
 //! In which order the blocks of the trees of all groups are read: the trees of a kind level by level, those of all groups together, and
 //! the trees of owners last.
 
-use crate::checks::{equal, must, same};
+use crate::checks::{compare_at, equal, must};
 use crate::groups::{self, leaf, seal, see};
 use crate::small_volume::put;
 use crate::text::{Row, line_at, line_count, refuse};
@@ -33,13 +33,20 @@ const ROOTS: [u64; 10] = [1, 2, 3, 4, 5, 1025, 1026, 1027, 1028, 1029];
 
 #[test]
 fn roots_come_first(rt: HostRuntime) {
-    let mut noted = NotedDisk::new(rt.alloc(), tall(&rt, rt.alloc()));
-    let seen = seen(&rt, rt.alloc(), &mut noted);
-    equal(&rt, seen.groups.is_ok(), true);
+    let rt = &rt;
+    let alloc = rt.alloc();
+    let mut noted = NotedDisk::new(alloc, tall(rt, alloc));
+    let seen = seen(rt, alloc, &mut noted);
+    equal(rt, seen.groups.is_ok(), true);
     drop(seen);
     for leaf in LEAVES {
         for root in ROOTS {
-            same!(rt; first_read(&rt, &noted, root) < first_read(&rt, &noted, leaf), true; (leaf, root));
+            compare_at(
+                rt,
+                &(first_read(rt, &noted, root) < first_read(rt, &noted, leaf)),
+                &true,
+                &(leaf, root),
+            );
         }
     }
 }

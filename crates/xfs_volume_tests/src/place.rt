@@ -97,11 +97,12 @@ fn lowest_chunks(rt: HostRuntime) {
 }
 
 fn try_chunks(rt: &(impl Abort + AllocGlobal), line: &str) {
+    let alloc = rt.alloc();
     let mut row = Row::new(line);
     let (size, from) = (row.number::<u32>(rt), row.number(rt));
-    let spared = row.numbers::<u32>(rt, rt.alloc());
-    let asked = ask(rt, rt.alloc(), size.max(1), from, spared, row.number(rt));
-    match chunks(rt.alloc(), &asked) {
+    let spared = row.numbers::<u32>(rt, alloc);
+    let asked = ask(rt, alloc, size.max(1), from, spared, row.number(rt));
+    match chunks(alloc, &asked) {
         Ok(starts) => tells(rt, &starts.as_slice(), row.text(), line),
         Err(_) => refuse(rt, "no chunks are found", line),
     }
@@ -109,16 +110,17 @@ fn try_chunks(rt: &(impl Abort + AllocGlobal), line: &str) {
 
 #[test]
 fn too_few_chunks(rt: HostRuntime) {
+    let rt = &rt;
     let alloc = rt.alloc();
     // AG blocks 8 to 1023 without 16 to 31, and of the second group 520 to 1015
     let all = (1016 - 16) / 8 + (1016 - 520) / 8;
-    let asked = ask(&rt, alloc, 8, 0, Vec::new(alloc), all);
-    sure(&rt, chunks(alloc, &asked).is_ok(), "all chunks");
+    let asked = ask(rt, alloc, 8, 0, Vec::new(alloc), all);
+    sure(rt, chunks(alloc, &asked).is_ok(), "all chunks");
     drop(asked);
-    let asked = ask(&rt, alloc, 8, 0, Vec::new(alloc), all + 1);
+    let asked = ask(rt, alloc, 8, 0, Vec::new(alloc), all + 1);
     let found = chunks(alloc, &asked);
     sure(
-        &rt,
+        rt,
         matches!(found, Err(PlaceFault::NoRoom(Unplaced::LostFound))),
         "one chunk more",
     );

@@ -126,11 +126,12 @@ fn reads(rt: HostRuntime) {
 }
 
 fn try_reads<R: Abort + AllocGlobal + Threads + Sync>(rt: &R, line: &str) {
+    let alloc = rt.alloc();
     let mut row = Row::new(line);
     let case = row.text();
     let disk = disk_of(rt, &mut row);
-    let mut noted = NotedDisk::new(rt.alloc(), disk);
-    let found = gathered(rt, rt.alloc(), &mut noted, case);
+    let mut noted = NotedDisk::new(alloc, disk);
+    let found = gathered(rt, alloc, &mut noted, case);
     equal_at(rt, found.seen.as_seen().dirs().len(), 2, case);
     let view = view_of(found);
     equal_at(rt, view.is_ok(), row.flag(rt), case);
@@ -140,10 +141,11 @@ fn try_reads<R: Abort + AllocGlobal + Threads + Sync>(rt: &R, line: &str) {
 
 /// The disk of a line.
 fn disk_of(rt: &(impl Abort + AllocGlobal), row: &mut Row<'_>) -> MemoryDisk {
-    let lost = row.numbers::<u64>(rt, rt.alloc());
-    let mut disk = groups::disk(rt, rt.alloc(), &lost);
+    let alloc = rt.alloc();
+    let lost = row.numbers::<u64>(rt, alloc);
+    let mut disk = groups::disk(rt, alloc, &lost);
     put_chunk(rt, &mut disk, row.optional(rt));
-    put_directory(rt, rt.alloc(), &mut disk);
+    put_directory(rt, alloc, &mut disk);
     if row.flag(rt) {
         put(rt, &mut disk, 5, &leaf(rt, 5, &mut Row::new(OWNERS)));
     }

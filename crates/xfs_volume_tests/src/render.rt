@@ -4,7 +4,7 @@ mod objects;
 mod slots;
 mod wanted;
 
-use crate::checks::{equal, must, same, sure};
+use crate::checks::{compare_at, equal, must, sure};
 use crate::small_volume::put;
 use crate::text::{Row, line_at, line_count, put_parts, refuse};
 use std::alloc::Global;
@@ -131,12 +131,13 @@ fn block_of(rt: &impl Abort, disk: &mut MemoryDisk, place: u64) -> [u8; BLOCK_SI
 
 #[test]
 fn volume_with_two_files(rt: HostRuntime) {
+    let rt = &rt;
     let alloc = rt.alloc();
-    let mut due = due_disk(&rt, alloc);
-    let plan = plan_two(&rt, alloc, &block_of(&rt, &mut due, 0));
+    let mut due = due_disk(rt, alloc);
+    let plan = plan_two(rt, alloc, &block_of(rt, &mut due, 0));
     // both groups have a first block and five trees, the chunk has eight blocks, each file one, and the log 512, which have two blocks of bytes
     equal(
-        &rt,
+        rt,
         (
             plan.fresh.as_slice().len(),
             plan.in_place.as_slice().len(),
@@ -144,9 +145,9 @@ fn volume_with_two_files(rt: HostRuntime) {
         ),
         (20, 514, 24),
     );
-    let mut held = planned_disk(&rt, alloc, &plan);
+    let mut held = planned_disk(rt, alloc, &plan);
     for place in 0..2048 {
-        are_same(&rt, &mut held, &mut due, place);
+        are_same(rt, &mut held, &mut due, place);
     }
     drop(plan);
 }
@@ -165,5 +166,10 @@ fn plan_two<R: Threads + Sync + Abort>(rt: &R, alloc: Global, head: &[u8; BLOCK_
 
 /// Fails where two disks differ in a block.
 fn are_same(rt: &impl Abort, held: &mut MemoryDisk, due: &mut MemoryDisk, place: u64) {
-    same!(*rt; block_of(rt, held, place), block_of(rt, due, place); place);
+    compare_at(
+        rt,
+        &block_of(rt, held, place),
+        &block_of(rt, due, place),
+        &place,
+    );
 }

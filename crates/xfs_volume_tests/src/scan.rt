@@ -3,7 +3,7 @@
 
 ghost use Rattle.std.specs.Prelude.{◌≡◌, ◌<◌, ◌≤◌};
 
-use crate::checks::{equal, must, same, sure};
+use crate::checks::{compare_at, equal, must, sure};
 use crate::small_volume::{ROOT, put, volume};
 use crate::text::{Row, line_at, line_count, refuse, tells};
 use std::alloc::Global;
@@ -149,23 +149,19 @@ const DIRECTORIES: &str = "[DirRec { ino: 128, parent: 128, whole: true }]";
 
 #[test]
 fn evidence(rt: HostRuntime) {
-    let found = seen_with(&rt, rt.alloc(), &[(137, LOST_ATTRIBUTES)]);
-    tells(&rt, &found.clusters.as_slice(), CLUSTERS, "clusters");
-    equal(&rt, found.slots.as_slice().len(), 64);
-    are_files(&rt, found.seen.as_seen().files());
-    tells(&rt, &found.bare.as_slice(), "[137]", "bare files");
-    tells(&rt, &found.seen.as_seen().entries(), ENTRIES, "entries");
-    tells(
-        &rt,
-        &found.seen.as_seen().dirs(),
-        DIRECTORIES,
-        "directories",
-    );
-    equal(&rt, found.trees.as_slice().len(), 2);
-    equal(&rt, found.log, LogState::Clean { head: 1 << 32 });
+    let rt = &rt;
+    let found = seen_with(rt, rt.alloc(), &[(137, LOST_ATTRIBUTES)]);
+    tells(rt, &found.clusters.as_slice(), CLUSTERS, "clusters");
+    equal(rt, found.slots.as_slice().len(), 64);
+    are_files(rt, found.seen.as_seen().files());
+    tells(rt, &found.bare.as_slice(), "[137]", "bare files");
+    tells(rt, &found.seen.as_seen().entries(), ENTRIES, "entries");
+    tells(rt, &found.seen.as_seen().dirs(), DIRECTORIES, "directories");
+    equal(rt, found.trees.as_slice().len(), 2);
+    equal(rt, found.log, LogState::Clean { head: 1 << 32 });
     let view = view_of(found);
     sure(
-        &rt,
+        rt,
         matches!(view, Err(Finding::Part { part: 1, place: 0 })),
         "the first part that does not read",
     );
@@ -195,29 +191,32 @@ const SLOTS: &str = "\
 
 #[test]
 fn slots(rt: HostRuntime) {
+    let rt = &rt;
     let changed = [(137, LOST_ATTRIBUTES), (139, (118, 7)), (140, (2, 0))];
-    let found = seen_with(&rt, rt.alloc(), &changed);
+    let found = seen_with(rt, rt.alloc(), &changed);
     let slots = found.slots.as_slice();
     for i in 0..line_count(SLOTS) {
         let line = line_at(SLOTS, i);
         let mut row = Row::new(line);
-        let place: usize = row.number(&rt);
-        sure(&rt, place < slots.len(), line);
-        tells(&rt, &slots[place], row.text(), line);
+        let place: usize = row.number(rt);
+        sure(rt, place < slots.len(), line);
+        tells(rt, &slots[place], row.text(), line);
     }
     drop(found);
 }
 
 #[test]
 fn least_feature(rt: HostRuntime) {
+    let rt = &rt;
+    let alloc = rt.alloc();
     let changed = [(136, PLAIN), (138, (126, 2)), (141, (126, 8))];
-    let mut disk = disk(&rt, rt.alloc(), &changed);
-    let refused = seen(rt.alloc(), &rt, &mut disk);
+    let mut disk = disk(rt, alloc, &changed);
+    let refused = seen(alloc, rt, &mut disk);
     let least = matches!(
         refused,
         Err(ScanFault::UnsupportedFile { ino: 138, what: 4 })
     );
-    sure(&rt, least, "the least inode");
+    sure(rt, least, "the least inode");
     drop(refused);
 }
 
@@ -232,25 +231,32 @@ fn try_failing<R: Abort + Threads + Sync>(rt: &R, alloc: Global, call: u64) {
     let mut disk = disk(rt, alloc, &[]);
     must(rt, disk.fail(call));
     let refused = seen(alloc, rt, &mut disk);
-    same!(*rt; matches!(refused, Err(ScanFault::ReadFault)), true; call);
+    compare_at(
+        rt,
+        &matches!(refused, Err(ScanFault::ReadFault)),
+        &true,
+        &call,
+    );
     drop(refused);
 }
 
 #[test]
 fn pieces_run_at_once(rt: HostRuntime) {
-    let mut disk = disk(&rt, rt.alloc(), &[]);
+    let rt = &rt;
+    let alloc = rt.alloc();
+    let mut disk = disk(rt, alloc, &[]);
     assert!(rt; matches!(disk.blocks(), Ok(count) if 2048 <= count));
     let gate = HoldingGate::new(1_000_000_000);
     let gathered = gather_counted::<HostRuntime, MemoryDisk, HoldingGate, Brand>(
-        &rt,
-        rt.alloc(),
+        rt,
+        alloc,
         &mut disk,
         &gate,
         Blank::new(1),
     );
-    sure(&rt, gathered.is_ok(), "the volume is not refused");
+    sure(rt, gathered.is_ok(), "the volume is not refused");
     sure(
-        &rt,
+        rt,
         gate.has_met(),
         "the second piece came while the first was held",
     );

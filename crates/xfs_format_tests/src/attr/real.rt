@@ -36,10 +36,11 @@ const HELD: &str = "\
 
 #[test]
 fn attributes_that_a_kernel_wrote(rt: HostRuntime) {
+    let rt = &rt;
     let alloc = rt.alloc();
-    let label = Row::new(LABEL).bytes(&rt, alloc);
-    expect(&rt, read_short_attributes(alloc, &label), LABELLED, "label");
+    let label = Row::new(LABEL).bytes(rt, alloc);
+    expect(rt, read_short_attributes(alloc, &label), LABELLED, "label");
     let mut block = [0; BLOCK_SIZE];
-    put_parts(&rt, &mut block, LEAF);
-    expect(&rt, read_leaf(alloc, &block), HELD, "leaf");
+    put_parts(rt, &mut block, LEAF);
+    expect(rt, read_leaf(alloc, &block), HELD, "leaf");
 }

@@ -37,12 +37,13 @@ const FAILING: &str = "\
 
 #[test]
 fn a_disk_fails_where_it_is_told_to(rt: HostRuntime) {
+    let rt = &rt;
     for i in 0..line_count(FAILING) {
         let line = line_at(FAILING, i);
-        try_failing(&rt, line);
+        try_failing(rt, line);
     }
     let large = MemoryDisk::make(rt.alloc(), 1 << 52);
-    sure(&rt, matches!(large, Err(NoMemory)), "a disk without memory");
+    sure(rt, matches!(large, Err(NoMemory)), "a disk without memory");
 }
 
 fn try_failing(rt: &(impl Abort + AllocGlobal), line: &str) {
@@ -72,10 +73,12 @@ fn disk_with(rt: &impl Abort, alloc: Global, call: Option<u64>, writes: Option<u
 
 #[test]
 fn streams_keep_their_bytes(rt: HostRuntime) {
-    let mut source = must(&rt, MemorySource::make(rt.alloc(), b"hello"));
-    must(&rt, source.fail(2));
-    let mut sink = must(&rt, MemorySink::make(rt.alloc(), 7));
-    must(&rt, sink.fail(3));
+    let rt = &rt;
+    let alloc = rt.alloc();
+    let mut source = must(rt, MemorySource::make(alloc, b"hello"));
+    must(rt, source.fail(2));
+    let mut sink = must(rt, MemorySink::make(alloc, 7));
+    must(rt, sink.fail(3));
     let mut part = [b'.'; 3];
     let steps: [(Result<usize, Failed>, Result<(), Failed>, &[u8]); 4] = [
         (Ok(3), Ok(()), b"hel"),
@@ -84,13 +87,13 @@ fn streams_keep_their_bytes(rt: HostRuntime) {
         (Ok(0), Err(Failed), b"helhell"),
     ];
     for (taken, put, bytes) in steps {
-        equal(&rt, source.take(&mut part), taken);
-        equal(&rt, sink.put(&part), put);
-        equal(&rt, sink.bytes(), bytes);
+        equal(rt, source.take(&mut part), taken);
+        equal(rt, sink.put(&part), put);
+        equal(rt, sink.bytes(), bytes);
     }
-    let missing = file_of(rt.alloc());
+    let missing = file_of(alloc);
     sure(
-        &rt,
+        rt,
         matches!(missing, Err(LibraryFault::Missing)),
         "an empty library",
     );

@@ -23,18 +23,19 @@ fn word(rt: &impl Abort, system: &HostRuntime, bytes: &[u8]) -> Word {
 
 #[test]
 fn a_file_is_a_disk_of_its_whole_blocks(rt: HostRuntime) {
-    let path = path_of(&rt, &rt, "disk");
-    let bytes = must(&rt, vec![in rt.alloc(); 1u8; 2 * BLOCK_SIZE + 100]);
-    must(&rt, fs::write(&rt, path.as_path(), bytes.as_slice()));
-    let mut disk = opened(&rt, &rt, &path);
+    let rt = &rt;
+    let path = path_of(rt, rt, "disk");
+    let bytes = must(rt, vec![in rt.alloc(); 1u8; 2 * BLOCK_SIZE + 100]);
+    must(rt, fs::write(rt, path.as_path(), bytes.as_slice()));
+    let mut disk = opened(rt, rt, &path);
     assert!(rt; matches!(disk.blocks(), Ok(2)));
-    equal(&rt, disk.write(1, &[2; BLOCK_SIZE]), Ok(()));
-    equal(&rt, disk.sync(), Ok(()));
-    are_read(&rt, &mut disk);
-    holds(&rt, &rt, &path, bytes);
-    cut(&rt, &rt, &path);
-    does_not_read(&rt, &mut disk);
-    must(&rt, fs::remove_file(&rt, path.as_path()));
+    equal(rt, disk.write(1, &[2; BLOCK_SIZE]), Ok(()));
+    equal(rt, disk.sync(), Ok(()));
+    are_read(rt, &mut disk);
+    holds(rt, rt, &path, bytes);
+    cut(rt, rt, &path);
+    does_not_read(rt, &mut disk);
+    must(rt, fs::remove_file(rt, path.as_path()));
 }
 
 /// The options that a disk is opened with.
@@ -94,24 +95,26 @@ fn does_not_read(rt: &impl Abort, disk: &mut FileDisk<File>) {
 
 #[test]
 fn no_file_is_no_disk(rt: HostRuntime) {
+    let rt = &rt;
     let mut none = FileDisk::<File>::unopened(rt.alloc());
-    equal(&rt, none.blocks(), Err(Failed));
-    equal(&rt, none.sync(), Err(Failed));
-    equal(&rt, none.faults(), 1);
+    equal(rt, none.blocks(), Err(Failed));
+    equal(rt, none.sync(), Err(Failed));
+    equal(rt, none.faults(), 1);
 }
 
 #[test]
 fn a_file_that_is_only_read_takes_no_block(rt: HostRuntime) {
-    let path = path_of(&rt, &rt, "read_only");
+    let rt = &rt;
+    let path = path_of(rt, rt, "read_only");
     let threes = [3; BLOCK_SIZE];
-    must(&rt, fs::write(&rt, path.as_path(), threes.as_slice()));
-    let file = must(&rt, File::open(&rt, path.as_path()));
-    let mut disk = must(&rt, FileDisk::open(rt.alloc(), file));
+    must(rt, fs::write(rt, path.as_path(), threes.as_slice()));
+    let file = must(rt, File::open(rt, path.as_path()));
+    let mut disk = must(rt, FileDisk::open(rt.alloc(), file));
     assert!(rt; matches!(disk.blocks(), Ok(1)));
-    equal(&rt, disk.write(0, &[4; BLOCK_SIZE]), Err(Failed));
-    equal(&rt, disk.faults(), 0);
-    has_bytes(&rt, &rt, &path, &threes);
-    must(&rt, fs::remove_file(&rt, path.as_path()));
+    equal(rt, disk.write(0, &[4; BLOCK_SIZE]), Err(Failed));
+    equal(rt, disk.faults(), 0);
+    has_bytes(rt, rt, &path, &threes);
+    must(rt, fs::remove_file(rt, path.as_path()));
 }
 
 /// Fails where a file does not hold these bytes.
@@ -144,20 +147,21 @@ impl Write for Narrow {
 
 #[test]
 fn streams_reach_the_system(rt: HostRuntime) {
-    let path = path_of(&rt, &rt, "streams");
-    let mut sink = StreamSink::new(must(&rt, fs::create(&rt, path.as_path())));
-    equal(&rt, sink.put(b"four words "), Ok(()));
-    equal(&rt, sink.put(b"of text"), Ok(()));
-    has_bytes(&rt, &rt, &path, b"four words of text");
-    gives_words(&rt, &rt, &path);
-    must(&rt, fs::remove_file(&rt, path.as_path()));
+    let rt = &rt;
+    let path = path_of(rt, rt, "streams");
+    let mut sink = StreamSink::new(must(rt, fs::create(rt, path.as_path())));
+    equal(rt, sink.put(b"four words "), Ok(()));
+    equal(rt, sink.put(b"of text"), Ok(()));
+    has_bytes(rt, rt, &path, b"four words of text");
+    gives_words(rt, rt, &path);
+    must(rt, fs::remove_file(rt, path.as_path()));
     for (left, fault, put) in [
         (7, None, Ok(())),
         (6, None, Err(Failed)),
         (6, Some(ErrorKind::StorageFull), Err(Failed)),
     ] {
         let mut sink = StreamSink::new(Narrow { left, fault });
-        equal(&rt, sink.put(b"letters"), put);
+        equal(rt, sink.put(b"letters"), put);
     }
 }
 
@@ -177,30 +181,27 @@ fn gives_words(rt: &impl Abort, system: &HostRuntime, path: &PathBuf) {
 
 #[test]
 fn a_library_reads_the_files_of_the_system(rt: HostRuntime) {
-    let path = path_of(&rt, &rt, "library");
-    must(&rt, fs::write(&rt, path.as_path(), b"mode 0644".as_slice()));
-    let bytes = must(&rt, file_of(&rt, &rt, path.as_str().as_bytes()));
+    let rt = &rt;
+    let path = path_of(rt, rt, "library");
+    must(rt, fs::write(rt, path.as_path(), b"mode 0644".as_slice()));
+    let bytes = must(rt, file_of(rt, rt, path.as_str().as_bytes()));
+    sure(rt, bytes.as_slice() == b"mode 0644".as_slice(), "its bytes");
+    must(rt, fs::remove_file(rt, path.as_path()));
+    let missing = file_of(rt, rt, path.as_str().as_bytes());
     sure(
-        &rt,
-        bytes.as_slice() == b"mode 0644".as_slice(),
-        "its bytes",
-    );
-    must(&rt, fs::remove_file(&rt, path.as_path()));
-    let missing = file_of(&rt, &rt, path.as_str().as_bytes());
-    sure(
-        &rt,
+        rt,
         matches!(missing, Err(LibraryFault::Missing)),
         "a file that is removed",
     );
-    let strange = file_of(&rt, &rt, b"\xff");
+    let strange = file_of(rt, rt, b"\xff");
     sure(
-        &rt,
+        rt,
         matches!(strange, Err(LibraryFault::Failed)),
         "a name that is no text",
     );
-    let folder = must(&rt, env::temp_dir(&rt));
-    let folder = file_of(&rt, &rt, folder.as_str().as_bytes());
-    sure(&rt, matches!(folder, Err(LibraryFault::Failed)), "a folder");
+    let folder = must(rt, env::temp_dir(rt));
+    let folder = file_of(rt, rt, folder.as_str().as_bytes());
+    sure(rt, matches!(folder, Err(LibraryFault::Failed)), "a folder");
 }
 
 /// What the library of the system answers to a name.

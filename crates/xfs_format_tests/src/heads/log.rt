@@ -148,16 +148,17 @@ cleared by xfs_repair | 1 header 4 512 1, 1 data 4 32, 510 new, 1 record 3 8 258
 
 #[test]
 fn states(rt: HostRuntime) {
+    let rt = &rt;
     for table in [UNMOUNTED, RECORDS, AROUND_THE_END, CLEARED, REAL] {
         for i in 0..line_count(table) {
             let line = line_at(table, i);
             let mut row = Row::new(line);
             let _case = row.text();
-            let seen = lay(&rt, row.text());
-            let due = state_of(&rt, row);
-            equal_at(&rt, log_state(&seen, seen.len()), due, line);
+            let seen = lay(rt, row.text());
+            let due = state_of(rt, row);
+            equal_at(rt, log_state(&seen, seen.len()), due, line);
             equal_at(
-                &rt,
+                rt,
                 log_state(&seen[..listed_of(&seen)], seen.len()),
                 due,
                 line,
@@ -194,21 +195,22 @@ const MADE_DATA: &str = "0 0000000100000008aa2000006e550000";
 
 #[test]
 fn blank_sectors(rt: HostRuntime) {
+    let rt = &rt;
     let mut sector = [0xff; 512];
     for (index, parts) in [MADE_HEADER, MADE_DATA].iter().enumerate() {
         let mut due = [0; 512];
-        put_parts(&rt, &mut due, parts);
+        put_parts(rt, &mut due, parts);
         blank_log_sector(1, index as u64, &IDENTIFIER, &mut sector);
-        equal(&rt, sector, due);
+        equal(rt, sector, due);
     }
     for cycle in [1, 8, 0x7fff_ffff] {
         let mut seen = Vec::new(rt.alloc());
         for index in 0..64 {
             blank_log_sector(cycle, index, &IDENTIFIER, &mut sector);
-            must(&rt, seen.push(see_sector(&sector)));
+            must(rt, seen.push(see_sector(&sector)));
         }
         let head = ((cycle as u64) << 32) + 2;
-        equal(&rt, log_state(&seen, seen.len()), LogState::Clean { head });
+        equal(rt, log_state(&seen, seen.len()), LogState::Clean { head });
     }
 }
 
@@ -225,16 +227,17 @@ const CHANGED: &str = "0 feedbabd, 8 aa200000";
 
 #[test]
 fn seen_sectors(rt: HostRuntime) {
+    let rt = &rt;
     let mut sector = [0; 512];
-    equal(&rt, see_sector(&sector), ZERO_SECTOR);
+    equal(rt, see_sector(&sector), ZERO_SECTOR);
     for i in 0..line_count(SEEN) {
         let line = line_at(SEEN, i);
         let mut row = Row::new(line);
-        put_parts(&rt, &mut sector, row.text());
-        equal_at(&rt, see_sector(&sector), sector_of(&rt, row), line);
+        put_parts(rt, &mut sector, row.text());
+        equal_at(rt, see_sector(&sector), sector_of(rt, row), line);
     }
-    put_parts(&rt, &mut sector, CHANGED);
+    put_parts(rt, &mut sector, CHANGED);
     let due =
         "SectorSeen { cycle: 4276992701, header_sectors: 0, len: 0, header: false, single: false, flag: 32 }";
-    tells(&rt, &see_sector(&sector), due, CHANGED);
+    tells(rt, &see_sector(&sector), due, CHANGED);
 }

@@ -110,28 +110,30 @@ fn image(rt: &(impl Abort + AllocGlobal), logblocks: u32, identifier: &str) -> G
 
 #[test]
 fn headers_that_mkfs_made(rt: HostRuntime) {
-    let g = image(&rt, 878, MADE);
-    let Some(agf) = read_agf(&g, 2, &sector_of(&rt, 0, MADE_AGF)) else {
-        refuse(&rt, "the header of free space is refused", "")
+    let rt = &rt;
+    let g = image(rt, 878, MADE);
+    let Some(agf) = read_agf(&g, 2, &sector_of(rt, 0, MADE_AGF)) else {
+        refuse(rt, "the header of free space is refused", "")
     };
-    tells(&rt, &agf, MADE_AGF_PRINTED, "free space");
-    let Some(agi) = read_agi(&g, 2, &sector_of(&rt, 0, MADE_AGI)) else {
-        refuse(&rt, "the header of inodes is refused", "")
+    tells(rt, &agf, MADE_AGF_PRINTED, "free space");
+    let Some(agi) = read_agi(&g, 2, &sector_of(rt, 0, MADE_AGI)) else {
+        refuse(rt, "the header of inodes is refused", "")
     };
-    tells(&rt, &agi, MADE_AGI_PRINTED, "inodes");
+    tells(rt, &agi, MADE_AGI_PRINTED, "inodes");
     let agfl = Agfl::new(&[884, 885, 886, 887, 888, 889]);
-    let sector = sector_of(&rt, 0xff, MADE_AGFL);
-    equal(&rt, read_agfl(&g, 2, &agf, &sector), Some(agfl));
+    let sector = sector_of(rt, 0xff, MADE_AGFL);
+    equal(rt, read_agfl(&g, 2, &agf, &sector), Some(agfl));
 }
 
 #[test]
 fn headers_that_a_kernel_wrote(rt: HostRuntime) {
-    let g = image(&rt, 1000, WRITTEN);
-    let Some(agf) = read_agf(&g, 0, &sector_of(&rt, 0, WRITTEN_AGF)) else {
-        refuse(&rt, "the header of free space is refused", "")
+    let rt = &rt;
+    let g = image(rt, 1000, WRITTEN);
+    let Some(agf) = read_agf(&g, 0, &sector_of(rt, 0, WRITTEN_AGF)) else {
+        refuse(rt, "the header of free space is refused", "")
     };
-    tells(&rt, &agf, WRITTEN_AGF_PRINTED, "free space");
+    tells(rt, &agf, WRITTEN_AGF_PRINTED, "free space");
     let agfl = Agfl::new(&[790, 792, 794, 796, 798, 800, 802, 804]);
-    let sector = sector_of(&rt, 0xff, WRITTEN_AGFL);
-    equal(&rt, read_agfl(&g, 0, &agf, &sector), Some(agfl));
+    let sector = sector_of(rt, 0xff, WRITTEN_AGFL);
+    equal(rt, read_agfl(&g, 0, &agf, &sector), Some(agfl));
 }

@@ -149,10 +149,11 @@ fn is_not_read(rt: &(impl Abort + AllocGlobal), disk: &mut MemoryDisk, key: &str
 
 #[test]
 fn a_file_of_two_leaves(rt: HostRuntime) {
-    is_named(&rt);
-    let mut disk = disk_of_leaves(&rt);
-    is_read(&rt, &mut disk, "194 012c");
-    is_not_read(&rt, &mut disk, "194 012d", "Ok(Unsound)");
-    must(&rt, disk.fail(2));
-    is_not_read(&rt, &mut disk, "194 012c", "Err(ReadFault)");
+    let rt = &rt;
+    is_named(rt);
+    let mut disk = disk_of_leaves(rt);
+    is_read(rt, &mut disk, "194 012c");
+    is_not_read(rt, &mut disk, "194 012d", "Ok(Unsound)");
+    must(rt, disk.fail(2));
+    is_not_read(rt, &mut disk, "194 012c", "Err(ReadFault)");
 }

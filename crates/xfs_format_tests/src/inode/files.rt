@@ -210,11 +210,12 @@ fn read_tree_rows(rt: &(impl Abort + AllocGlobal), rows: &str) {
 
 #[test]
 fn files(rt: HostRuntime) {
-    read_rows(&rt, OWN, None, None, None);
-    read_index_rows(&rt, WITH_LEAF, 0x3bee, LEAF);
-    read_rows(&rt, WITHOUT_LEAF, None, Some(&[0; BLOCK_SIZE]), None);
-    read_index_rows(&rt, WITH_NODE, 0x3ebe, NODE);
-    read_index_rows(&rt, WITH_REMOTE, 0x3bee, REMOTE);
-    read_link_rows(&rt, LINKS, LINK);
-    read_tree_rows(&rt, TREES);
+    let rt = &rt;
+    read_rows(rt, OWN, None, None, None);
+    read_index_rows(rt, WITH_LEAF, 0x3bee, LEAF);
+    read_rows(rt, WITHOUT_LEAF, None, Some(&[0; BLOCK_SIZE]), None);
+    read_index_rows(rt, WITH_NODE, 0x3ebe, NODE);
+    read_index_rows(rt, WITH_REMOTE, 0x3bee, REMOTE);
+    read_link_rows(rt, LINKS, LINK);
+    read_tree_rows(rt, TREES);
 }

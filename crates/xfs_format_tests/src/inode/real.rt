@@ -73,8 +73,9 @@ fn read_cut(rt: &(impl Abort + AllocGlobal), disk: &mut MemoryDisk, cut: &str) {
 
 #[test]
 fn inodes_of_every_type(rt: HostRuntime) {
-    let mut disk = disk_of(&rt);
+    let rt = &rt;
+    let mut disk = disk_of(rt);
     for cut in CUTS.split('#') {
-        read_cut(&rt, &mut disk, cut);
+        read_cut(rt, &mut disk, cut);
     }
 }

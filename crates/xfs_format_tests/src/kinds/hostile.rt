@@ -76,6 +76,7 @@ fn reading<K: Kind, L: Ledger>(
 
 #[test]
 fn one_child_twice(rt: HostRuntime) {
+    let rt = &rt;
     let magic = 0x4941_4233;
     let root = block(
         magic,
@@ -87,13 +88,14 @@ fn one_child_twice(rt: HostRuntime) {
     );
     let leaf = block(magic, 21, 0, 1, [NONE, 21], &[(56, 128), (60, 0x0000_4000)]);
     match reading::<Ino, Brand>(rt.alloc(), &Ino { ag: 0 }, &root, &leaf, Blank::new(1)) {
-        Err(fault) => equal(&rt, fault, TreeFault::Unread(Unread { block: 21, rule: 2 })),
-        Ok(_) => refuse(&rt, "the tree is read", ""),
+        Err(fault) => equal(rt, fault, TreeFault::Unread(Unread { block: 21, rule: 2 })),
+        Ok(_) => refuse(rt, "the tree is read", ""),
     }
 }
 
 #[test]
 fn keys_of_owners(rt: HostRuntime) {
+    let rt = &rt;
     let magic = 0x524d_4233;
     let leaf = block(
         magic,
@@ -120,8 +122,8 @@ fn keys_of_owners(rt: HostRuntime) {
         ];
         let root = block(magic, 20, 1, 1, [NONE, NONE], &keys);
         match reading::<Rmap, Brand>(rt.alloc(), &Rmap { ag: 0 }, &root, &leaf, Blank::new(1)) {
-            Err(fault) => equal(&rt, fault, TreeFault::Unread(Unread { block: 21, rule })),
-            Ok(tree) => equal(&rt, (tree.records.len(), rule), (1, 0)),
+            Err(fault) => equal(rt, fault, TreeFault::Unread(Unread { block: 21, rule })),
+            Ok(tree) => equal(rt, (tree.records.len(), rule), (1, 0)),
         }
     }
 }

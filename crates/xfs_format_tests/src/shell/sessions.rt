@@ -74,24 +74,25 @@ fn word_of(rt: &impl Abort, alloc: Global, text: &str) -> Word {
 
 /// Runs the session of a line, and compares what it put and its outcome.
 fn check(rt: &(impl Abort + AllocGlobal), line: &str) {
+    let alloc = rt.alloc();
     let mut row = Row::new(line);
     let case = row.text();
     let (expert, read_only) = (row.flag(rt), row.flag(rt));
     let (failing, failing_input) = (row.optional(rt), row.optional(rt));
     let (room, outcome) = (row.number(rt), row.text());
-    let options = options_of(rt, rt.alloc(), expert, read_only, row.text());
+    let options = options_of(rt, alloc, expert, read_only, row.text());
     let mut disk = volume(rt);
     if let Some(call) = failing {
         must(rt, disk.fail(call));
     }
-    let mut input = input_of(rt, rt.alloc(), row.text());
+    let mut input = input_of(rt, alloc, row.text());
     if let Some(call) = failing_input {
         must(rt, input.fail(call));
     }
-    let mut out = must(rt, MemorySink::make(rt.alloc(), room));
-    let answer = shell(rt.alloc(), &mut disk, &mut input, &mut out, &options);
+    let mut out = must(rt, MemorySink::make(alloc, room));
+    let answer = shell(alloc, &mut disk, &mut input, &mut out, &options);
     tells(rt, &answer, outcome, case);
-    let told = lines_of(rt, rt.alloc(), row.text());
+    let told = lines_of(rt, alloc, row.text());
     equal_at(rt, out.bytes(), told.as_slice(), case);
 }
 
@@ -112,16 +113,18 @@ const LONG: &str = "\
 
 #[test]
 fn inputs_of_more_bytes_than_there_may_be_are_too_long(rt: HostRuntime) {
-    let options = options_of(&rt, rt.alloc(), true, false, "");
+    let rt = &rt;
+    let alloc = rt.alloc();
+    let options = options_of(rt, alloc, true, false, "");
     for i in 0..line_count(LONG) {
         let line = line_at(LONG, i);
         let mut row = Row::new(line);
-        let (letter, count) = (row.number(&rt), row.number(&rt));
-        let mut disk = volume(&rt);
-        let bytes = must(&rt, vec![in rt.alloc(); letter; count]);
-        let mut input = must(&rt, MemorySource::make(rt.alloc(), bytes.as_slice()));
-        let mut out = must(&rt, MemorySink::make(rt.alloc(), 80));
-        let answer = shell(rt.alloc(), &mut disk, &mut input, &mut out, &options);
-        tells(&rt, &answer, row.text(), line);
+        let (letter, count) = (row.number(rt), row.number(rt));
+        let mut disk = volume(rt);
+        let bytes = must(rt, vec![in alloc; letter; count]);
+        let mut input = must(rt, MemorySource::make(alloc, bytes.as_slice()));
+        let mut out = must(rt, MemorySink::make(alloc, 80));
+        let answer = shell(alloc, &mut disk, &mut input, &mut out, &options);
+        tells(rt, &answer, row.text(), line);
     }
 }

@@ -100,14 +100,15 @@ fn broken_trees_together(rt: HostRuntime) {
 }
 
 fn try_broken<R: Threads + Sync + Abort + AllocGlobal>(rt: &R, line: &str) {
+    let alloc = rt.alloc();
     let mut row = Row::new(line);
     let what = row.text();
     let blocks = [row.text(), row.text(), row.text()];
     let due = row.text();
     let wrong = (what == "checksum") as u8;
-    let mut disk = disk_of(rt, rt.alloc(), blocks, wrong);
+    let mut disk = disk_of(rt, alloc, blocks, wrong);
     for workers in 0..4 {
-        let grown = grown(rt, rt.alloc(), &mut disk, workers);
+        let grown = grown(rt, alloc, &mut disk, workers);
         equal_at(rt, grown.len(), 3, what);
         assert_broken(rt, grown.get(0), due, what);
         assert_broken(rt, grown.get(2), due, what);
@@ -129,18 +130,20 @@ fn assert_broken(
 
 #[test]
 fn whole_trees_together(rt: HostRuntime) {
-    let mut disk = disk_of(&rt, rt.alloc(), WHOLE, 0);
+    let rt = &rt;
+    let alloc = rt.alloc();
+    let mut disk = disk_of(rt, alloc, WHOLE, 0);
     for workers in 0..4 {
-        let grown = grown(&rt, rt.alloc(), &mut disk, workers);
-        equal(&rt, grown.len(), 3);
-        assert_whole(&rt, grown.get(0));
+        let grown = grown(rt, alloc, &mut disk, workers);
+        equal(rt, grown.len(), 3);
+        assert_whole(rt, grown.get(0));
         assert_broken(
-            &rt,
+            rt,
             grown.get(1),
             "Unread { block: 22, rule: 8 }",
             "a leaf with a sibling",
         );
-        assert_whole(&rt, grown.get(2));
+        assert_whole(rt, grown.get(2));
     }
 }
 

@@ -149,12 +149,13 @@ fn hostile(rt: HostRuntime) {
 }
 
 fn try_broken(rt: &(impl Abort + AllocGlobal), line: &str) {
+    let alloc = rt.alloc();
     let mut row = Row::new(line);
     let what = row.text();
     let blocks = [row.text(), row.text(), row.text()];
     let wrong = (what == "checksum") as u8;
-    let mut disk = disk_of(rt, rt.alloc(), blocks, wrong);
-    match reading(rt, rt.alloc(), &mut disk) {
+    let mut disk = disk_of(rt, alloc, blocks, wrong);
+    match reading(rt, alloc, &mut disk) {
         Err(TreeFault::Unread(fault)) => tells(rt, &fault, row.text(), what),
         _ => refuse(rt, "this is not found", what),
     }
@@ -169,18 +170,20 @@ pub(super) const WHOLE: [&str; 3] = [
 
 #[test]
 fn each_block_is_read_once(rt: HostRuntime) {
-    let mut disk = disk_of(&rt, rt.alloc(), WHOLE, 0);
-    must(&rt, disk.fail(4));
-    match reading(&rt, rt.alloc(), &mut disk) {
+    let rt = &rt;
+    let alloc = rt.alloc();
+    let mut disk = disk_of(rt, alloc, WHOLE, 0);
+    must(rt, disk.fail(4));
+    match reading(rt, alloc, &mut disk) {
         Ok(tree) => {
-            tells(&rt, &tree.records.as_slice(), "[10, 20, 30]", "records");
-            tells(&rt, &tree.blocks.as_slice(), "[20, 21, 22]", "blocks");
+            tells(rt, &tree.records.as_slice(), "[10, 20, 30]", "records");
+            tells(rt, &tree.blocks.as_slice(), "[20, 21, 22]", "blocks");
         }
-        Err(_) => refuse(&rt, "the tree is not read", ""),
+        Err(_) => refuse(rt, "the tree is not read", ""),
     }
-    let failed = reading(&rt, rt.alloc(), &mut disk);
+    let failed = reading(rt, alloc, &mut disk);
     sure(
-        &rt,
+        rt,
         matches!(failed, Err(TreeFault::ReadFault)),
         "the fourth read fails",
     );

@@ -32,11 +32,12 @@ fn built_directories(rt: HostRuntime) {
 }
 
 fn try_building(rt: &(impl Abort + AllocGlobal), line: &str) {
+    let alloc = rt.alloc();
     let mut row = Row::new(line);
     let case = row.text();
     let wanted = wanted_of(rt, &mut row, case);
-    let rooms = items::<ForkRoom>(rt, rt.alloc(), row.text());
-    let built = must(rt, build_in_order(rt.alloc(), &wanted, rooms));
+    let rooms = items::<ForkRoom>(rt, alloc, row.text());
+    let built = must(rt, build_in_order(alloc, &wanted, rooms));
     tells_blocks(rt, built.as_slice(), row.text(), case);
     tells_shorts(rt, built.as_slice(), row.text(), case);
     tells_bytes(rt, built.as_slice(), row.text(), case);

@@ -31,11 +31,12 @@ const LIMIT: u64 = 1 << 32;
 pub fn wanted_of(rt: &(impl Abort + AllocGlobal), row: &mut Row, case: &str) -> WantedNames
     ensures { CanBeBuilt result }
 {
-    let nodes = items::<NodeRec>(rt, rt.alloc(), row.text());
-    let listed = items::<EntryRec>(rt, rt.alloc(), row.text());
-    let dirs = items::<DirRec>(rt, rt.alloc(), row.text());
-    let clusters: Vec<u64> = Row::new(row.text()).numbers(rt, rt.alloc());
-    match wanted_names(rt, rt.alloc(), row, &nodes, &listed, &dirs, &clusters, case) {
+    let alloc = rt.alloc();
+    let nodes = items::<NodeRec>(rt, alloc, row.text());
+    let listed = items::<EntryRec>(rt, alloc, row.text());
+    let dirs = items::<DirRec>(rt, alloc, row.text());
+    let clusters: Vec<u64> = Row::new(row.text()).numbers(rt, alloc);
+    match wanted_names(rt, alloc, row, &nodes, &listed, &dirs, &clusters, case) {
         Ok(wanted) => wanted,
         Err(_) => refuse(rt, "memory is wanting", case),
     }

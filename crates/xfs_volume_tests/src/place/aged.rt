@@ -58,13 +58,14 @@ fn directory_placed_anew(rt: HostRuntime) {
 }
 
 fn try_aged(rt: &(impl Abort + AllocGlobal), line: &str) {
+    let alloc = rt.alloc();
     let mut row = Row::new(line);
     let reserved = reserved_of(rt, &mut row);
-    let from = spare_in_repair(rt, rt.alloc(), &reserved, line);
+    let from = spare_in_repair(rt, alloc, &reserved, line);
     tells(rt, &from.as_slice(), row.text(), line);
-    let objects = one_object(rt, rt.alloc(), 131, ObjectKind::Directory, &[3, 1], 21);
+    let objects = one_object(rt, alloc, 131, ObjectKind::Directory, &[3, 1], 21);
     let spared = SparedBlocks { from, takes: true };
-    let placed = must(rt, spare_small(rt.alloc(), reserved, objects, 1, spared));
+    let placed = must(rt, spare_small(alloc, reserved, objects, 1, spared));
     tells_runs(rt, &placed, &mut row, line);
     stand_behind(rt, &placed, &mut row, line);
     drop(placed);

@@ -72,11 +72,12 @@ fn files_larger_than_a_group(rt: HostRuntime) {
 }
 
 fn try_large(rt: &(impl Abort + AllocGlobal), line: &str) {
+    let alloc = rt.alloc();
     let mut row = Row::new(line);
-    let lengths = row.numbers::<u32>(rt, rt.alloc());
-    let spared = spare_anew(rt, rt.alloc(), root_chunk());
+    let lengths = row.numbers::<u32>(rt, alloc);
+    let spared = spare_anew(rt, alloc, root_chunk());
     tells(rt, &spared.from.as_slice(), "[1997, 1997]", line);
-    let placed = place_files(rt, rt.alloc(), &lengths, spared);
+    let placed = place_files(rt, alloc, &lengths, spared);
     tells_placed(rt, &placed, &mut row, line);
     if let Ok(placed) = &placed {
         equal_at(rt, placed.counts.fdblocks, row.number::<u64>(rt), line);
@@ -145,15 +146,16 @@ const TREES: &str = "\
 
 #[test]
 fn many_files_beside_spared_blocks(rt: HostRuntime) {
+    let rt = &rt;
     let alloc = rt.alloc();
-    let lengths = many_files(&rt, alloc);
+    let lengths = many_files(rt, alloc);
     let chunks = thirty_chunks();
-    let spared = spare_anew(&rt, alloc, chunks);
+    let spared = spare_anew(rt, alloc, chunks);
     let Ok(objects) = files_of(alloc, &lengths) else {
-        refuse(&rt, "memory is wanting", "files");
+        refuse(rt, "memory is wanting", "files");
     };
     let placed = place_sparing(alloc, &NEW, chunks, Vec::new(alloc), objects, 256, spared);
-    tells_many(&rt, &must(&rt, placed));
+    tells_many(rt, &must(rt, placed));
 }
 
 /// Fails where the many files do not stand as they are due.

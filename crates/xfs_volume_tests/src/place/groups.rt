@@ -283,17 +283,18 @@ const NEW: &str = "\
 
 #[test]
 fn new_volume(rt: HostRuntime) {
+    let rt = &rt;
     let alloc = rt.alloc();
     let none = Vec::new(alloc);
-    let placed = must(&rt, place_small(alloc, none, Vec::new(alloc), 1));
+    let placed = must(rt, place_small(alloc, none, Vec::new(alloc), 1));
     let counts = Counts {
         icount: 64,
         ifree: 61,
         fdblocks: 1516,
     };
-    equal(&rt, placed.counts, counts);
-    equal(&rt, placed.groups.as_slice().len(), 2);
-    hold(&rt, &placed, NEW);
+    equal(rt, placed.counts, counts);
+    equal(rt, placed.groups.as_slice().len(), 2);
+    hold(rt, &placed, NEW);
     drop(placed);
 }
 
@@ -305,11 +306,12 @@ const BESIDE_RESERVED: &str = "\
 
 #[test]
 fn trees_beside_reserved_blocks(rt: HostRuntime) {
+    let rt = &rt;
     let alloc = rt.alloc();
-    let reserved = must(&rt, vec![in alloc; 3, 5, 1027, 1029]);
-    let placed = must(&rt, place_small(alloc, reserved, Vec::new(alloc), 1));
-    equal(&rt, placed.groups.as_slice().len(), 2);
-    hold(&rt, &placed, BESIDE_RESERVED);
+    let reserved = must(rt, vec![in alloc; 3, 5, 1027, 1029]);
+    let placed = must(rt, place_small(alloc, reserved, Vec::new(alloc), 1));
+    equal(rt, placed.groups.as_slice().len(), 2);
+    hold(rt, &placed, BESIDE_RESERVED);
     drop(placed);
 }
 
@@ -341,19 +343,20 @@ const FULL_LAST: &str = "\
 
 #[test]
 fn small_last_group(rt: HostRuntime) {
+    let rt = &rt;
     let alloc = rt.alloc();
     let none = Vec::new(alloc);
     let placed = must(
-        &rt,
+        rt,
         place_beside(alloc, &SMALL_LAST, file(1034, 54), none, Vec::new(alloc), 1),
     );
-    equal(&rt, placed.groups.as_slice().len(), 2);
-    hold(&rt, &placed, FULL_LAST);
+    equal(rt, placed.groups.as_slice().len(), 2);
+    hold(rt, &placed, FULL_LAST);
     drop(placed);
     let none = Vec::new(alloc);
     let found = place_beside(alloc, &SMALL_LAST, file(1029, 59), none, Vec::new(alloc), 1);
     sure(
-        &rt,
+        rt,
         matches!(found, Err(PlaceFault::NoRoom(Unplaced::Group(1)))),
         "a full group",
     );
@@ -379,11 +382,12 @@ const NEARLY_FULL: &str = "\
 
 #[test]
 fn groups_nearly_full(rt: HostRuntime) {
+    let rt = &rt;
     for i in 0..line_count(NEARLY_FULL) {
         let line = line_at(NEARLY_FULL, i);
         let mut row = Row::new(line);
-        let seen = seen_with(&rt, row.number::<u64>(&rt).min(12), line);
-        tells(&rt, &seen, row.text(), line);
+        let seen = seen_with(rt, row.number::<u64>(rt).min(12), line);
+        tells(rt, &seen, row.text(), line);
     }
 }
 
@@ -427,14 +431,15 @@ const FOUR: &str = "\
 
 #[test]
 fn four_groups(rt: HostRuntime) {
+    let rt = &rt;
     let alloc = rt.alloc();
     let none = Vec::new(alloc);
     let placed = must(
-        &rt,
+        rt,
         place_beside(alloc, &FOUR_GROUPS, root_chunk(), none, Vec::new(alloc), 1),
     );
-    equal(&rt, placed.counts.fdblocks, 7648);
-    equal(&rt, placed.groups.as_slice().len(), 4);
-    hold(&rt, &placed, FOUR);
+    equal(rt, placed.counts.fdblocks, 7648);
+    equal(rt, placed.groups.as_slice().len(), 4);
+    hold(rt, &placed, FOUR);
     drop(placed);
 }

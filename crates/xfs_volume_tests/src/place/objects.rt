@@ -6,7 +6,7 @@ ghost use Rattle.xfs_place.specs.Objects.{IsAsk};
 
 use super::groups::{SMALLEST, Size, file, place_beside, place_small};
 use super::*;
-use crate::checks::{equal, must, same, sure};
+use crate::checks::{compare_at, equal, must, sure};
 use crate::text::{line_at, refuse, tells};
 
 /// An object that asks for runs of these lengths, and may take so many.
@@ -86,26 +86,22 @@ const LISTS: &str = "\
 
 #[test]
 fn objects_before_trees(rt: HostRuntime) {
-    let placed = must(&rt, place_three(&rt, rt.alloc(), 500));
+    let rt = &rt;
+    let placed = must(rt, place_three(rt, rt.alloc(), 500));
     let runs = placed.runs.as_slice();
-    equal(&rt, runs.len(), 6);
+    equal(rt, runs.len(), 6);
     for (i, run) in runs.iter().enumerate() {
         tells(
-            &rt,
+            rt,
             &(run.start, run.count, run.owner),
             line_at(RUNS, i),
             "a run",
         );
     }
     let groups = placed.groups.as_slice();
-    equal(&rt, groups.len(), 2);
+    equal(rt, groups.len(), 2);
     for (i, group) in groups.iter().enumerate() {
-        tells(
-            &rt,
-            &group.agfl.as_slice(),
-            line_at(LISTS, i),
-            "a free list",
-        );
+        tells(rt, &group.agfl.as_slice(), line_at(LISTS, i), "a free list");
     }
     drop(placed);
 }
@@ -123,18 +119,19 @@ fn place_three(rt: &impl Abort, alloc: Global, last: u32) -> Result<Placed, Plac
 
 #[test]
 fn objects_without_room(rt: HostRuntime) {
+    let rt = &rt;
     let alloc = rt.alloc();
-    let found = place_three(&rt, alloc, 507);
+    let found = place_three(rt, alloc, 507);
     sure(
-        &rt,
+        rt,
         matches!(found, Err(PlaceFault::NoRoom(Unplaced::File(133)))),
         "a file",
     );
     drop(found);
-    let objects = one_object(&rt, alloc, 131, ObjectKind::Directory, &[1, 1000], 2);
+    let objects = one_object(rt, alloc, 131, ObjectKind::Directory, &[1, 1000], 2);
     let found = place_small(alloc, Vec::new(alloc), objects, 25);
     sure(
-        &rt,
+        rt,
         matches!(found, Err(PlaceFault::NoRoom(Unplaced::Directory(131)))),
         "a directory",
     );
@@ -190,11 +187,12 @@ fn tree_blocks(placed: &Placed, runs: usize) -> Option<[usize; 5]> {
 
 #[test]
 fn many_free_runs(rt: HostRuntime) {
+    let rt = &rt;
     let alloc = rt.alloc();
     for runs in [335, 336, 337] {
-        let blocks = must(&rt, trees_beside(alloc, &SMALLEST, runs.min(400), 100));
-        same!(rt; blocks, Some([1, 1, 1, 1, 4]); runs);
+        let blocks = must(rt, trees_beside(alloc, &SMALLEST, runs.min(400), 100));
+        compare_at(rt, &blocks, &Some([1, 1, 1, 1, 4]), &runs);
     }
-    let blocks = must(&rt, trees_beside(alloc, &LARGE, 200_000, 3000));
-    equal(&rt, blocks, Some([400, 400, 1, 1, 1206]));
+    let blocks = must(rt, trees_beside(alloc, &LARGE, 200_000, 3000));
+    equal(rt, blocks, Some([400, 400, 1, 1, 1206]));
 }

@@ -59,20 +59,22 @@ pub fn runs_of(rt: &impl Abort, alloc: Global, placed: &Placed) -> Vec<(u64, u64
 
 /// The blocks of the smallest volume, but for those of the rows that stand next in a line.
 pub fn reserved_of(rt: &(impl Abort + AllocGlobal), row: &mut Row<'_>) -> Vec<u64> {
-    let rows = row.numbers::<u64>(rt, rt.alloc());
-    all_but(rt, rt.alloc(), &rows, SMALLEST.dblocks)
+    let alloc = rt.alloc();
+    let rows = row.numbers::<u64>(rt, alloc);
+    all_but(rt, alloc, &rows, SMALLEST.dblocks)
 }
 
 /// The data of a file, in asks of the lengths that stand next in a line, which may take as many runs as stand behind these.
 pub fn data_of(rt: &(impl Abort + AllocGlobal), row: &mut Row<'_>) -> Vec<Object>
     ensures { All (λ object. All IsAsk object.runs) result.items }
 {
-    let numbers = row.numbers::<u32>(rt, rt.alloc());
-    let Ok(lengths) = lengths_of(rt.alloc(), &numbers) else {
+    let alloc = rt.alloc();
+    let numbers = row.numbers::<u32>(rt, alloc);
+    let Ok(lengths) = lengths_of(alloc, &numbers) else {
         refuse(rt, "memory is wanting", "lengths");
     };
     let most = row.number(rt);
-    one_object(rt, rt.alloc(), 133, ObjectKind::Data, &lengths, most)
+    one_object(rt, alloc, 133, ObjectKind::Data, &lengths, most)
 }
 
 /// Fails where what was placed does not stand as the end of a line says: the runs and how many each ask has.

@@ -67,14 +67,15 @@ fn objects_beside_spared_blocks(rt: HostRuntime) {
 }
 
 fn try_beside(rt: &(impl Abort + AllocGlobal), line: &str) {
+    let alloc = rt.alloc();
     let mut row = Row::new(line);
     let reserved = reserved_of(rt, &mut row);
     let spared = SparedBlocks {
-        from: Records::from_vec(row.numbers::<u32>(rt, rt.alloc())),
+        from: Records::from_vec(row.numbers::<u32>(rt, alloc)),
         takes: row.number::<u32>(rt) == 1,
     };
     let objects = data_of(rt, &mut row);
-    let placed = spare_small(rt.alloc(), reserved, objects, 24, spared);
+    let placed = spare_small(alloc, reserved, objects, 24, spared);
     tells_placed(rt, &placed, &mut row, line);
 }
 
@@ -112,22 +113,23 @@ fn last_start(placed: &Placed) -> Option<u64> {
 /// Both groups filled to their brim, each block with another owner: AG blocks 24 to 992 of the first, 518 to 992 of the second.
 #[test]
 fn groups_filled_to_their_brim(rt: HostRuntime) {
+    let rt = &rt;
     let alloc = rt.alloc();
     let all = 993 - 24 + (993 - 518);
-    let placed = must(&rt, fill(&rt, alloc, all, false));
-    equal(&rt, last_start(&placed), Some(1024 + 992));
+    let placed = must(rt, fill(rt, alloc, all, false));
+    equal(rt, last_start(&placed), Some(1024 + 992));
     for group in placed.groups.as_slice() {
-        equal(&rt, group.agfl.as_slice().len(), 6);
+        equal(rt, group.agfl.as_slice().len(), 6);
     }
     drop(placed);
-    let found = fill(&rt, alloc, all + 1, false);
+    let found = fill(rt, alloc, all + 1, false);
     sure(
-        &rt,
+        rt,
         matches!(found, Err(PlaceFault::NoRoom(Unplaced::File(2444)))),
         "one file more",
     );
     drop(found);
-    let placed = must(&rt, fill(&rt, alloc, all + 1, true));
-    equal(&rt, last_start(&placed), Some(993));
+    let placed = must(rt, fill(rt, alloc, all + 1, true));
+    equal(rt, last_start(&placed), Some(993));
     drop(placed);
 }

@@ -6,7 +6,7 @@ ghost use Rattle.xfs_volume_tests.specs.Rendered.{AreAsked};
 
 use super::wanted::plan_of;
 use super::{block_of, due_disk, planned_disk};
-use crate::checks::{equal, must, same, sure};
+use crate::checks::{compare_at, equal, must, sure};
 use crate::text::{Row, line_at, line_count, put_parts, refuse};
 use std::alloc::{AllocError, Global};
 use std::marker::Sync;
@@ -176,7 +176,7 @@ fn is_built(
         put_part(&mut due, checksum, part(held, checksum, 4));
         is_sealed(rt, held, kind, place, owner);
     }
-    same!(*rt; *held, due; place);
+    compare_at(rt, held, &due, &place);
 }
 
 /// Fails where a block is not sealed for its owner at its place, or for another too.
@@ -199,24 +199,25 @@ fn is_sealed(rt: &impl Abort, held: &[u8; BLOCK_SIZE], kind: SealKind, place: u6
 
 #[test]
 fn blocks_of_each_kind(rt: HostRuntime) {
+    let rt = &rt;
     let alloc = rt.alloc();
-    let head = block_of(&rt, &mut due_disk(&rt, alloc), 0);
-    let plan = plan_each(&rt, alloc, &head);
+    let head = block_of(rt, &mut due_disk(rt, alloc), 0);
+    let plan = plan_each(rt, alloc, &head);
     // both groups have five trees, and the chunk has eight blocks
-    equal(&rt, plan.fresh.as_slice().len(), 10 + 8 + 8);
+    equal(rt, plan.fresh.as_slice().len(), 10 + 8 + 8);
     for row in plan.fresh.as_slice() {
         sure(
-            &rt,
+            rt,
             row.at < 31 || row.at > 33,
             "unwritten blocks are not planned",
         );
     }
-    let mut disk = planned_disk(&rt, alloc, &plan);
+    let mut disk = planned_disk(rt, alloc, &plan);
     for i in 0..line_count(SEALED) {
         let mut row = Row::new(line_at(SEALED, i));
-        let place = row.number(&rt);
-        let held = block_of(&rt, &mut disk, place);
-        is_built(&rt, &held, line_at(BUILT, i), place, &mut row);
+        let place = row.number(rt);
+        let held = block_of(rt, &mut disk, place);
+        is_built(rt, &held, line_at(BUILT, i), place, &mut row);
     }
     drop(plan);
 }
