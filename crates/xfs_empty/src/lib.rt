@@ -21,5 +21,5 @@ mod wanted;
 
 pub use bytes::empty_bytes;
 pub use planning::plan_empty;
-pub use roots::{ROOT_INODE, fresh_core, time_of};
+pub use roots::{ROOT_INODE, fresh_core, system_slot, time_of, unused_slot};
 pub use wanted::empty_wanted;

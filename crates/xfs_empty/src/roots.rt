@@ -124,8 +124,8 @@ fn root_slot(alloc: Global, g: &Geometry, stamp: &Stamp) -> Result<SlotWanted, N
     })
 }
 
-/// What is wanted of the slot of a system inode.
-fn system_slot(g: &Geometry, stamp: &Stamp, ino: u64) -> SlotWanted
+/// What is wanted of the slot of a system inode: that of the realtime bitmap, which follows the root, or of the realtime summary.
+pub fn system_slot(g: &Geometry, stamp: &Stamp, ino: u64) -> SlotWanted
     ensures { result ≡ system_slot (volume_of g.now) stamp.now ino }
 {
     SlotWanted {
@@ -138,7 +138,7 @@ fn system_slot(g: &Geometry, stamp: &Stamp, ino: u64) -> SlotWanted
 }
 
 /// What is wanted of the slot of a free inode.
-fn unused_slot(ino: u64) -> SlotWanted
+pub fn unused_slot(ino: u64) -> SlotWanted
     ensures { result ≡ unused_slot ino }
 {
     SlotWanted {

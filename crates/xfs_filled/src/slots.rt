@@ -4,7 +4,6 @@ ghost use Rattle.std.specs.Prelude.{◌≡◌, ◌*◌, ◌<◌, ◌≤◌, ◌=
 ghost use Rattle.std.specs.List.{All, flat_map};
 ghost use Rattle.std.specs.Option.{option_copied};
 ghost use Rattle.xfs_geom.specs.Volumes.{volume_of};
-ghost use Rattle.xfs_empty.specs.Inodes.{system_core, system_slot, unused_slot};
 ghost use Rattle.xfs_place.specs.Pool.{IsRunOf};
 ghost use Rattle.xfs_filled.specs.FileTrees.{object_order};
 ghost use Rattle.xfs_filled.specs.Forks.{HasOffset, extents_of_run};
@@ -20,16 +19,10 @@ use crate::site::{Site, content_at, directory_at, ino_at};
 use crate::spans::{RunSpan, list_spans};
 use std::alloc::Global;
 use xfs_disk::{NoMemory, Stamp};
-use xfs_empty::{ROOT_INODE, fresh_core, time_of};
-use xfs_geom::{Geometry, Run};
+use xfs_empty::{fresh_core, system_slot, time_of, unused_slot};
+use xfs_geom::Run;
 use xfs_render::{SlotBase, SlotWanted};
 use xfs_volume::Core;
-
-/// A regular file without permissions.
-const SYSTEM_MODE: u16 = 0x8000;
-
-/// The flag of the inode of the realtime bitmap.
-const NEW_BITMAP: u16 = 4;
 
 /// What is wanted of the slots of all chunks, where all objects have these runs.
 pub fn list_slots(
@@ -174,42 +167,5 @@ fn links_of(directory: Option<&MadeDirectory>) -> u32
     match directory {
         Some(made) => made.links,
         None => 1,
-    }
-}
-
-/// What is wanted of the slot of a system inode: that of the realtime bitmap, which follows the root, or of the realtime summary.
-fn system_slot(g: &Geometry, stamp: &Stamp, ino: u64) -> SlotWanted
-    ensures { result ≡ system_slot (volume_of g.now) stamp.now ino }
-{
-    SlotWanted {
-        ino,
-        base: SlotBase::Fresh(system_core(g, stamp, ino)),
-        drop_attrs: None,
-        fork: None,
-        nlink: None,
-    }
-}
-
-/// The core of a system inode, an empty regular file.
-fn system_core(g: &Geometry, stamp: &Stamp, ino: u64) -> Core
-    ensures { result ≡ system_core (volume_of g.now) stamp.now ino }
-{
-    let flags = if ino == ROOT_INODE + 1 { NEW_BITMAP } else { 0 };
-    Core {
-        flags,
-        ..fresh_core(g, time_of(stamp), stamp.generation, ino, SYSTEM_MODE)
-    }
-}
-
-/// What is wanted of the slot of a free inode.
-fn unused_slot(ino: u64) -> SlotWanted
-    ensures { result ≡ unused_slot ino }
-{
-    SlotWanted {
-        ino,
-        base: SlotBase::Free,
-        drop_attrs: None,
-        fork: None,
-        nlink: None,
     }
 }
