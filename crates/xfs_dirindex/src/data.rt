@@ -258,7 +258,7 @@ fn has_dots(entries: &[EntryRec]) -> bool
 
 /// Whether an entry has the name of the directory itself or of its parent.
 #[tactic(auto, unfolding(crate::specs::Data::is_dots))]
-fn is_dots(entry: &EntryRec) -> bool
+pub fn is_dots(entry: &EntryRec) -> bool
     ensures { result ≡ is_dots entry.now }
 {
     let name = entry.name.bytes();
@@ -273,9 +273,9 @@ fn is_self(name: &[u8]) -> bool
     name.len() == 1 && name[0] == b'.'
 }
 
-/// Whether a name is "..".
+/// Whether a name is "..", that of the parent.
 #[tactic(auto, unfolding(crate::specs::Data::is_parent_name))]
-fn is_parent_name(name: &[u8]) -> bool
+pub fn is_parent_name(name: &[u8]) -> bool
     ensures { result ≡ is_parent_name name.now }
 {
     if name.len() != 2 {

@@ -31,6 +31,7 @@ mod seen;
 mod values;
 
 pub use block::check_block;
+pub use data::{is_dots, is_parent_name};
 pub use leaf::check_leaf;
 pub use node::check_node;
 pub use pairs::{PAIR_SIZE, Pair};

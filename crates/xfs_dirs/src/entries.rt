@@ -1,7 +1,6 @@
 //! Entries, taken from a data block.
 
 ghost use Rattle.std.specs.Prelude.{◌≡◌, ◌++◌, length, filter, IfOk, OnOk};
-ghost use Rattle.xfs_dirindex.specs.Data.{is_dots, is_parent_name, is_self};
 ghost use Rattle.xfs_dirindex.specs.Mapped.{mapped_block};
 ghost use Rattle.xfs_image.specs.Directories.{is_beside_dots};
 ghost use Rattle.xfs_dirs.specs.Gathered.{entries_where, parent_in};
@@ -9,6 +8,7 @@ ghost use Rattle.xfs_dirs.specs.Gathered.{entries_where, parent_in};
 use std::alloc::Global;
 use xfs_dirdata::{DirDataFault, EntryRec, read_data};
 use xfs_dirindex::layouts::{INDEX_START, data_magic};
+use xfs_dirindex::{is_dots, is_parent_name};
 use xfs_disk::NoMemory;
 use xfs_word::get32;
 
@@ -40,7 +40,7 @@ pub fn parent_in(entries: &[EntryRec]) -> Option<u64>
     ensures { result ≡ parent_in entries.now }
 {
     for entry in entries {
-        if is_parent(entry.name.bytes()) {
+        if is_parent_name(entry.name.bytes()) {
             return Some(entry.ino);
         }
     }
@@ -57,29 +57,4 @@ pub fn push_named(entries: Vec<EntryRec>, named: &mut Vec<EntryRec>) -> Result<(
         }
     }
     Ok(())
-}
-
-/// Whether an entry is that of the directory itself or of its parent.
-#[tactic(auto, unfolding(xfs_dirindex::specs::Data::is_dots))]
-fn is_dots(entry: &EntryRec) -> bool
-    ensures { result ≡ is_dots entry.now }
-{
-    let name = entry.name.bytes();
-    is_self(name) || is_parent(name)
-}
-
-/// Whether a name is that of the directory itself.
-#[tactic(auto, unfolding(xfs_dirindex::specs::Data::is_self))]
-fn is_self(name: &[u8]) -> bool
-    ensures { result ≡ is_self name.now }
-{
-    name.len() == 1 && name[0] == b'.'
-}
-
-/// Whether a name is that of the parent.
-#[tactic(auto, unfolding(xfs_dirindex::specs::Data::is_parent_name))]
-fn is_parent(name: &[u8]) -> bool
-    ensures { result ≡ is_parent_name name.now }
-{
-    name.len() == 2 && name[0] == b'.' && name[1] == b'.'
 }
