@@ -33,5 +33,6 @@ pub use gaps::free_runs;
 pub use inode_trees::{Fino, Ino};
 pub use lengths::by_length;
 pub use merging::merge_runs;
+pub use offset_words::is_unwritten;
 pub use owner_trees::Rmap;
 pub use owners::RmapKey;

@@ -44,8 +44,8 @@ pub fn key_word(word: u64) -> u64
     }
 }
 
-/// Whether the blocks are reserved and read as zero.
-fn is_unwritten(word: u64) -> bool
+/// Whether the blocks are reserved for a file and read as zero.
+pub fn is_unwritten(word: u64) -> bool
     ensures { result ≡ is_unwritten word }
 {
     word / UNWRITTEN % 2 == 1

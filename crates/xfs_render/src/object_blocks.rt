@@ -2,7 +2,6 @@
 
 ghost use Rattle.std.specs.Prelude.{◌≡◌, ◌++◌, ◌≤◌, ◌+◌, length, map, All, IfOk, OnOk};
 ghost use Rattle.std.specs.List.{flat_map};
-ghost use Rattle.xfs_kinds.specs.OffsetWords.{is_unwritten};
 ghost use Rattle.xfs_place.specs.Objects.{ServeAsks, asks_of};
 ghost use Rattle.xfs_place.specs.Pool.{IsRunOf};
 ghost use Rattle.xfs_place.specs.declared.wanted.RunAsk.{RunAsk};
@@ -12,6 +11,7 @@ ghost use Rattle.xfs_render.specs.declared.object_blocks.ObjectAsk.{ObjectAsk};
 use std::alloc::Global;
 use xfs_disk::NoMemory;
 use xfs_geom::Run;
+use xfs_kinds::is_unwritten;
 use xfs_place::{Object, ObjectKind, Placed, RunAsk, Wanted};
 
 /// A run that an object asks for, with what the object is.
@@ -30,9 +30,6 @@ pub struct ObjectBlock {
     /// Its block number.
     pub place: u64,
 }
-
-/// The flag of unwritten blocks in an offset word (chapter "Reverse-Mapping B+tree").
-const UNWRITTEN: u64 = 1 << 61;
 
 /// The blocks of all objects that are written, in the order of their asks; those of an ask from its first to its last.
 pub fn object_blocks(
@@ -115,13 +112,6 @@ fn push_ask(
     }
     push_runs(_dblocks, ask, runs, blocks)?;
     Ok(())
-}
-
-/// Whether blocks of this offset word are unwritten.
-fn is_unwritten(word: u64) -> bool
-    ensures { result ≡ is_unwritten word }
-{
-    word / UNWRITTEN % 2 == 1
 }
 
 /// Adds the blocks of the runs of an ask.
