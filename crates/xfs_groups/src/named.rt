@@ -4,7 +4,6 @@ ghost use Rattle.std.specs.Prelude.{◌≡◌, ◌++◌, ◌*◌, ◌^◌, ◌<�
 ghost use Rattle.std.specs.List.{All, list_all};
 ghost use Rattle.xfs_disk.specs.Lists.{is_among};
 ghost use Rattle.xfs_geom.specs.Volumes.{volume_of};
-ghost use Rattle.xfs_kinds.specs.InodeTrees.{is_missing};
 ghost use Rattle.xfs_image.specs.Clusters.{same_clusters, both_name, chunk_clusters, clusters_in, given_clusters};
 ghost use Rattle.xfs_image.specs.Reserved.{is_of_named, is_of_tree};
 ghost use Rattle.xfs_groups.specs.Named.{AreOwnersApart, chunks_in, is_named, named_in, owners_in};
@@ -15,6 +14,7 @@ use crate::trees::TreeSeen;
 use std::alloc::Global;
 use xfs_disk::NoMemory;
 use xfs_geom::{Geometry, InoRec, RmapRec};
+use xfs_kinds::is_missing;
 use xfs_volume::Blocks;
 
 /// The clusters that the two trees of a group name, each where it reads.
@@ -117,14 +117,6 @@ fn push_clusters(base: u64, chunk: &InoRec, clusters: &mut Vec<u64>) -> Result<(
         clusters.push(first + 4)?;
     }
     Ok(())
-}
-
-/// Whether a bit of a chunk's mask of missing inodes is set.
-fn is_missing(holemask: u16, bit: u32) -> bool
-    requires { bit < 16 }
-    ensures { result ≡ is_missing holemask (4 * bit) }
-{
-    holemask >> bit & 1 == 1
 }
 
 impl Named {

@@ -90,6 +90,14 @@ pub fn missing_bits(holemask: u16) -> u64
     }
 }
 
+/// Whether a bit of a chunk's mask of missing inodes is set; it stands for four inodes.
+pub fn is_missing(holemask: u16, bit: u32) -> bool
+    requires { bit < 16 }
+    ensures { result ≡ is_missing holemask (4 * bit) }
+{
+    holemask >> bit & 1 == 1
+}
+
 /// Whether a chunk can be put: its mask is one that the trees have.
 fn fits_chunk(chunk: InoRec) -> bool
     ensures { result ≡ fits_chunk chunk }

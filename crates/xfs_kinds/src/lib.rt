@@ -26,7 +26,7 @@ mod owner_trees;
 mod owners;
 mod spans;
 
-pub use chunks::missing_bits;
+pub use chunks::{is_missing, missing_bits};
 pub use file_trees::Bmbt;
 pub use free_trees::{Bno, Cnt};
 pub use gaps::free_runs;

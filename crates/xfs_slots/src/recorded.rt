@@ -3,13 +3,13 @@
 ghost use Rattle.std.specs.Prelude.{◌≡◌, ◌*◌, ◌^◌, ◌<◌, ◌≤◌, ◌++◌, [], ◌∷◌, if◌then◌else◌, length, IfOk, OnOk};
 ghost use Rattle.std.specs.List.{All, flat_map};
 ghost use Rattle.xfs_geom.specs.Volumes.{volume_of};
-ghost use Rattle.xfs_kinds.specs.InodeTrees.{is_missing};
 ghost use Rattle.xfs_image.specs.Clusters.{clusters_in};
 ghost use Rattle.xfs_image.specs.Files.{clusters_of};
 
 use std::alloc::Global;
 use xfs_disk::NoMemory;
 use xfs_geom::{Geometry, InoRec};
+use xfs_kinds::is_missing;
 use xfs_volume::GroupRec;
 
 /// The most clusters that a chunk has.
@@ -70,12 +70,4 @@ fn push_unless(missing: bool, cluster: u64, clusters: &mut Vec<u64>) -> Result<(
         clusters.push(cluster)?;
     }
     Ok(())
-}
-
-/// Whether a bit of a chunk's mask of missing inodes is set; it stands for four inodes.
-fn is_missing(holemask: u16, bit: u32) -> bool
-    requires { bit < 16 }
-    ensures { result ≡ is_missing holemask (4 * bit) }
-{
-    holemask >> bit & 1 == 1
 }

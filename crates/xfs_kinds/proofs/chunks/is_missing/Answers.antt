@@ -1,6 +1,6 @@
 use Rattle.std.proofs.Common.{◌≡◌, ℕ, ◌*◌, ◌/◌, ◌%◌, ◌^◌, ◌==◌, ap, sym, ◌∙◌, arith}
 use Rattle.std.proofs.lemmas.Nat.{and_mask}
-use Rattle.xfs_groups.proofs.named.is_missing.Goals as goal
+use Rattle.xfs_kinds.proofs.chunks.is_missing.Goals as goal
 
 pub returns : goal.returns
 returns c =
