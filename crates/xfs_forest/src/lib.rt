@@ -31,5 +31,6 @@ mod sweeping;
 mod taking;
 
 pub use faults::ForestFault;
+pub use pieces::piece_size;
 pub use plants::Plant;
 pub use reading::read_forest;

@@ -38,7 +38,7 @@ pub(crate) fn judge_pieces<K: Kind + Drop, R: Threads + Sync, G: Gate>(
 }
 
 /// How many blocks a piece has at most: all of them over the workers.
-fn piece_size(blocks: usize, workers: u32) -> usize
+pub fn piece_size(blocks: usize, workers: u32) -> usize
     ensures { 1 ≤ result }
 {
     blocks.div_ceil(workers.max(1) as usize).max(1)

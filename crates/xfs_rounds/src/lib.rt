@@ -33,5 +33,5 @@ pub use facts::{SlotFact, SlotReading};
 pub use faults::RoundFault;
 pub use judging::{BoxedRead, SlotFile, SlotPart};
 pub use loading::{load_round, reload_round};
-pub use pieces::{BlockParts, judge_round, piece_size};
+pub use pieces::{BlockParts, judge_round};
 pub use reading::settle_round;

@@ -11,6 +11,7 @@ use std::thread;
 use std::thread::Threads;
 use xfs_collections::BlockBank;
 use xfs_disk::{Gate, NoMemory};
+use xfs_forest::piece_size;
 use xfs_geom::Geometry;
 
 /// A block of a round, and what is known of its slots.
@@ -88,13 +89,6 @@ fn judge_pieces<R: Threads + Sync, G: Gate>(
         ensures { (i : ℕ) (d : BlockParts) → i < length piece.entry.now → IsJudged (volume_of g.entry.now) bank.entry.now (slice_index_or piece.entry.now i d) (slice_index_or piece.exit.now i d) }
     { judge_piece(alloc, g, bank, start / size, gate, piece) };
     thread::for_each_chunk_mut(rt, blocks, size, &judge);
-}
-
-/// How many blocks a piece has at most: all of them over the workers.
-pub fn piece_size(blocks: usize, workers: u32) -> usize
-    ensures { 1 ≤ result }
-{
-    blocks.div_ceil(workers.max(1) as usize).max(1)
 }
 
 /// Judges the slots of the blocks of a piece, once it is through the gate.
