@@ -5,7 +5,7 @@ ghost use Rattle.std.specs.List.{All};
 ghost use Rattle.xfs_geom.specs.Volumes.{volume_of};
 ghost use Rattle.xfs_views.specs.xfs_image.Clusters.{cluster_of, root_cluster};
 ghost use Rattle.xfs_claims.specs.Spans.{SpansApart, IsRun, spans_of};
-ghost use Rattle.xfs_views.specs.xfs_space.Owners.{runs_of_blocks, extent_run, extent_word, file_runs};
+ghost use Rattle.xfs_views.specs.xfs_space.Owners.{runs_of_blocks, extent_run, file_runs};
 ghost use Rattle.xfs_views.specs.xfs_space.Parts.{HasLawfulForks};
 ghost use Rattle.xfs_views.specs.xfs_space.Private.Places.{IsPlacedExtent};
 
@@ -14,11 +14,9 @@ use std::sync::ledger::Ledger;
 use xfs_collections::{RunSet, Steps};
 use xfs_disk::NoMemory;
 use xfs_geom::{Geometry, Run};
+use xfs_space::word_of;
 use xfs_volume::FileRec;
 use xfs_word::Extent;
-
-/// The flag of blocks that are not written yet, in an offset word.
-const UNWRITTEN: u64 = 1 << 61;
 
 /// The flag of blocks of an extent tree.
 const TREE_BLOCK: u64 = 1 << 62;
@@ -82,19 +80,6 @@ fn push_blocks(runs: &mut Vec<Run>, ino: u64, blocks: &[u64]) -> Result<(), NoMe
         })?;
     }
     Ok(())
-}
-
-/// The offset word of an extent's first block.
-fn word_of(flag: u64, extent: &Extent) -> u64
-    requires flag { flag ≤ 2 ^ 63 }
-    requires offset { extent.now.offset < 2 ^ 54 }
-    ensures { result ≡ extent_word flag extent.now }
-{
-    if extent.unwritten {
-        flag + UNWRITTEN + extent.offset
-    } else {
-        flag + extent.offset
-    }
 }
 
 /// The first block of the cluster of an inode.

@@ -24,4 +24,5 @@ mod sorting;
 mod splitting;
 
 pub use checking::check_space;
+pub use owned_files::word_of;
 pub use owners::owned_runs;

@@ -67,8 +67,8 @@ fn block_of(g: &Geometry, address: u64) -> u64
     address / size * g.agblocks as u64 + address % size
 }
 
-/// The offset word of an extent's first block.
-fn word_of(flag: u64, extent: &Extent) -> u64
+/// The offset word of an extent's first block, with a flag, which says what fork the extent is of.
+pub fn word_of(flag: u64, extent: &Extent) -> u64
     requires flag { flag ≤ 2 ^ 63 }
     requires offset { extent.now.offset < 2 ^ 54 }
     ensures { result ≡ extent_word flag extent.now }
