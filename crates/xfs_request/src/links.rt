@@ -1,6 +1,6 @@
 //! How many names a kept file is to have.
 
-ghost use Rattle.std.specs.Prelude.{◌≡◌, ◌++◌, ◌∷◌, [], ◌<◌, ◌^◌, if◌then◌else◌, IfOk, List, OnOk, count_by, filter};
+ghost use Rattle.std.specs.Prelude.{◌≡◌, ◌<◌, ◌^◌, IfOk, List, count_by, filter};
 ghost use Rattle.std.specs.List.Sorted.{IsNonDecreasing, IsNonDecreasingBy};
 ghost use Rattle.xfs_disk.specs.Lists.{is_among};
 ghost use Rattle.xfs_dirdata.specs.declared.records.EntryRec.{EntryRec};
@@ -62,33 +62,12 @@ pub(crate) fn numbers_of(alloc: Global, files: &[FileRec]) -> Result<Vec<u64>, A
     Ok(numbers)
 }
 
-/// The numbers that the directories among these files have.
-fn each_directory(alloc: Global, files: &[FileRec]) -> Result<Vec<u64>, AllocError>
-    ensures { IfOk result (λ numbers. numbers.items ≡ numbers_of (filter is_directory files.now)) }
-{
-    let mut numbers = Vec::new(alloc);
-    for file in files {
-        put_directory(&mut numbers, file)?;
-    }
-    Ok(numbers)
-}
-
-/// Puts the number of a directory behind the others.
-fn put_directory(numbers: &mut Vec<u64>, file: &FileRec) -> Result<(), AllocError>
-    ensures { OnOk result (numbers.new.items ≡ (if is_directory file.now then numbers.old.items ++ file.now.ino ∷ [] else numbers.old.items)) }
-{
-    if is_directory(file) {
-        numbers.push(file.ino)?;
-    }
-    Ok(())
-}
-
 /// The numbers of the directories among files.
 pub fn directories_of(alloc: Global, files: &[FileRec]) -> Result<Vec<u64>, AllocError>
     requires { IsNonDecreasingBy (λ (f : FileRec). f.ino) files.now }
     ensures { IfOk result (λ numbers. AreNumbers (filter is_directory files.now) numbers.items) }
 {
-    let numbers = each_directory(alloc, files)?;
+    let numbers = xfs_salvage::directories_of(alloc, files)?;
     Ok(numbers)
 }
 

@@ -22,5 +22,5 @@ mod runs;
 pub use claiming::claims_in;
 pub use found::{FoundRecords, Salvaged};
 pub use keeping::salvage;
-pub use order::is_among;
+pub use order::{directories_of, is_among};
 pub use runs::{cluster_of, push_file_runs};

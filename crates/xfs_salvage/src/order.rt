@@ -119,7 +119,7 @@ fn put_fresh(files: &[FileRec], ino: u64, fresh: &mut Vec<u64>) -> Result<(), Al
 }
 
 /// The numbers of the directories among files.
-pub(crate) fn directories_of(alloc: Global, files: &[FileRec]) -> Result<Vec<u64>, AllocError>
+pub fn directories_of(alloc: Global, files: &[FileRec]) -> Result<Vec<u64>, AllocError>
     ensures { IfOk result (λ numbers. numbers.items ≡ numbers_of (filter is_directory files.now)) }
 {
     let mut numbers = Vec::new(alloc);
