@@ -5,7 +5,7 @@
 # program that is measured lies in rendering_speed/, each file with .txt behind its name.
 set -eu
 . "$(dirname "$0")/crates.sh"
-take_program rendering_speed xfs_word xfs_disk xfs_shared xfs_geom xfs_tree xfs_kinds xfs_volume xfs_place xfs_render
+take_program rendering_speed xfs_word xfs_disk xfs_collections xfs_geom xfs_tree xfs_kinds xfs_volume xfs_place xfs_render
 prove_program rendering_speed
 for only in '' one; do
   for turn in 1 2 3; do

@@ -16,11 +16,10 @@ ghost use Rattle.xfs_backups.specs.Private.Rows.{disagreeing_places};
 
 use crate::faults::MendFault;
 use std::alloc::Global;
-use xfs_collections::BlockBank;
+use xfs_collections::{BlockBank, BlockList};
 use xfs_disk::{BLOCK_SIZE, Disk, Failed, NoMemory};
 use xfs_geom::superblock::SECTOR_SIZE;
 use xfs_geom::{Geometry, agrees};
-use xfs_shared::BlockList;
 use xfs_writing::Row;
 
 /// What is to be written so that every backup agrees with the primary superblock: blocks, and a row for each in ascending order.

@@ -7,12 +7,12 @@ ghost use Rattle.xfs_names.specs.declared.building.ForkRoom.{ForkRoom};
 ghost use Rattle.xfs_built.specs.Asks.{asked_run, asks_for, blocks_of_built, object_of, objects_of, stands_in_blocks};
 
 use std::alloc::Global;
+use xfs_collections::BlockList;
 use xfs_dirbuild::DirImage;
 use xfs_disk::NoMemory;
 use xfs_names::{BuiltDirectory, ForkRoom};
 use xfs_naming::records_by_number;
 use xfs_place::{Object, ObjectKind, RunAsk};
-use xfs_shared::BlockList;
 use xfs_volume::Records;
 
 /// The file block from which on the index of a directory stands, and that of its free blocks.

@@ -8,3 +8,4 @@ pub mod Blocks
 pub mod Cuts
 mod Scattered
 mod Runs
+pub mod Lists

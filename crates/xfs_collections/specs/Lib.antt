@@ -5,3 +5,4 @@ pub mod Bank
 pub mod Parts
 pub mod Lending
 pub mod Scattered
+pub mod Pieces

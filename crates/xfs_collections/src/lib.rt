@@ -27,17 +27,31 @@
 //! match bank.fill(disk, places) { .. }
 //! let first = bank.view(0);
 //! ```
+//!
+//! A `BlockList` is blocks in a list that share their bytes with others: what is planned to be written holds the bytes of each file once.
+//! A block is a place in bytes that several hold, and none is copied when it is put into another list:
+//!
+//! ```text
+//! let bytes = SharedBytes::make(alloc, bytes)?;
+//! list.push_blocks(&bytes)?;
+//! list.push(&block)?;
+//! ```
 #![tactic(auto)]
 
 mod bank;
+mod block_list;
 mod counting;
 mod links;
 mod order;
 mod parts;
+mod piece;
 mod run_set;
+mod shared_bytes;
 mod weave;
 
 pub use bank::BlockBank;
+pub use block_list::BlockList;
 pub use counting::Steps;
 pub use run_set::RunSet;
+pub use shared_bytes::SharedBytes;
 pub use weave::Weave;

@@ -8,3 +8,10 @@ pub mod Room
 pub mod Results
 pub mod Pushed
 pub mod Wants
+mod Bounds
+mod Chained
+pub mod Shapes
+pub mod Stated
+pub mod Numbers
+pub mod Accepted
+pub mod Carried

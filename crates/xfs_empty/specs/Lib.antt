@@ -3,3 +3,5 @@ pub mod Inodes
 pub mod Placing
 pub mod Bytes
 pub mod Planning
+pub mod Sizes
+pub mod Supers

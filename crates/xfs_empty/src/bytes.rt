@@ -6,10 +6,10 @@ ghost use Rattle.xfs_empty.specs.Bytes.{AreFirstSlots, IsEmptyBytes, empty_place
 use crate::roots::{ROOT_INODE, first_slot};
 use crate::wanted::{CHUNK_BLOCKS, FIRST_CHUNK};
 use std::alloc::Global;
+use xfs_collections::BlockList;
 use xfs_disk::{NoMemory, Stamp};
 use xfs_geom::Geometry;
 use xfs_render::{Bytes, SlotWanted};
-use xfs_shared::BlockList;
 use xfs_volume::Records;
 
 /// The slots of the first chunk.

@@ -15,10 +15,10 @@ use crate::contents::list_blocks;
 use crate::site::Site;
 use crate::slots::list_slots;
 use std::alloc::Global;
+use xfs_collections::BlockList;
 use xfs_disk::{NoMemory, Stamp};
 use xfs_geom::{Geometry, Run};
 use xfs_render::Bytes;
-use xfs_shared::BlockList;
 use xfs_volume::Records;
 
 /// What the blocks of a volume with these files are made of, with this superblock, where its objects have these runs: blocks

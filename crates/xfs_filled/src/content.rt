@@ -6,8 +6,8 @@ ghost use Rattle.xfs_filled.specs.Contents.{content_blocks};
 use crate::objects::blocks_for;
 use std::alloc::Global;
 use std::marker::Model;
+use xfs_collections::{BlockList, SharedBytes};
 use xfs_disk::{BLOCK_SIZE, NoMemory};
-use xfs_shared::{BlockList, SharedBytes};
 
 /// The bytes of a file, which several files and the plan of a volume may hold together. Contracts see the list of the bytes.
 #[derive(Drop)]

@@ -10,9 +10,9 @@ ghost use Rattle.xfs_filled.specs.Sites.{IsSite};
 use crate::directories::{FORK_ROOM, MadeDirectory};
 use crate::site::{Site, content_at, directory_at};
 use std::alloc::Global;
+use xfs_collections::BlockList;
 use xfs_disk::{BLOCK_SIZE, NoMemory};
 use xfs_proto::ProtoKind;
-use xfs_shared::BlockList;
 
 /// The magic number of the block of a symbolic link (chapter "Symbolic Links").
 const LINK_MAGIC: u32 = 0x5853_4c4d;

@@ -7,8 +7,7 @@ use crate::checks::{equal, must, sure};
 use crate::text::{part_at, part_count};
 use std::alloc::Global;
 use std::process::Abort;
-use xfs_collections::BlockBank;
-use xfs_shared::{BlockList, SharedBytes};
+use xfs_collections::{BlockBank, BlockList, SharedBytes};
 
 /// Asserts that of each of the list's blocks the first byte and all others are these.
 fn assert_blocks(rt: &impl Abort, list: &BlockList, due: &str) {

@@ -17,7 +17,6 @@ pub mod SameCandidates
 pub mod Staying
 pub mod Written
 pub use Rattle.xfs_rename.proofs.xfs_made as xfs_made
-pub use Rattle.xfs_rename.proofs.xfs_requested as xfs_requested
 pub use Rattle.xfs_rename.proofs.xfs_rebuild as xfs_rebuild
 pub use Rattle.xfs_rename.proofs as xfs_rename
 pub use Rattle.xfs_restored.proofs as xfs_restored

@@ -8,9 +8,9 @@ use Rattle.xfs_geom.specs.First.{first_false}
 use Rattle.xfs_geom.specs.Volumes.{volume_of}
 use Rattle.xfs_geom.specs.declared.geometry.Geometry.{Geometry}
 use Rattle.xfs_options.specs.declared.make_words.MakeOptions.{MakeOptions}
-use Rattle.xfs_sizing.proofs.Shapes.{log_behind}
-use Rattle.xfs_sizing.specs.Sizes.{IsChosenGeometry, are_groups, fits_disk, groups_of, has_log_room, log_blocks, too_small, volume_blocks}
-use Rattle.xfs_sizing.specs.declared.asked.SizesAsked.{SizesAsked}
+use Rattle.xfs_empty.proofs.Shapes.{log_behind}
+use Rattle.xfs_empty.specs.Sizes.{IsChosenGeometry, are_groups, fits_disk, groups_of, has_log_room, log_blocks, too_small, volume_blocks}
+use Rattle.xfs_empty.specs.declared.asked.SizesAsked.{SizesAsked}
 use Rattle.xfs_empty.specs.Geometry.{HasFirstChunk}
 use Rattle.xfs_mkfs.specs.Due.{IsGeometry, asked_of, by_size, by_volume, identifier, refusal}
 use Rattle.xfs_mkfs.specs.Marks.{is_marked}

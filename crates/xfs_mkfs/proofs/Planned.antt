@@ -6,7 +6,7 @@ use Rattle.xfs_geom.specs.Volumes.{volume_of}
 use Rattle.xfs_geom.specs.declared.geometry.Geometry.{Geometry}
 use Rattle.xfs_place.specs.declared.faults.PlaceFault.{PlaceFault}
 use Rattle.xfs_render.specs.declared.plan.Plan.{Plan}
-use Rattle.xfs_sizing.specs.Supers.{IsNewSuper}
+use Rattle.xfs_empty.specs.Supers.{IsNewSuper}
 use Rattle.xfs_empty.specs.Placing.{empty_wanted}
 use Rattle.xfs_empty.specs.Planning.{HasRoom}
 use Rattle.xfs_mkfs.specs.FilesAsked.{HasFilesCause}

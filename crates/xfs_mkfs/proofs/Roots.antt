@@ -26,7 +26,7 @@ use Rattle.xfs_image.proofs.Views.{view_of}
 use Rattle.xfs_space.proofs.RecordedMaps.{group_inside}
 use Rattle.xfs_populated.proofs.xfs_made.Numbers.{number_in_part}
 use Rattle.xfs_options.specs.declared.make_words.MakeOptions.{MakeOptions}
-use Rattle.xfs_sizing.specs.Sizes.{too_small}
+use Rattle.xfs_empty.specs.Sizes.{too_small}
 use Rattle.xfs_mkfs.specs.Due.{asked_of, by_size, refusal}
 use Rattle.xfs_mkfs.specs.Outcome.{IsDueMake, IsMade, SaysVolume}
 use Rattle.xfs_mkfs.specs.Roots.{HasInodeRoot, inode_root}

@@ -4,8 +4,8 @@ use Rattle.std.specs.Option.{unwrap_or}
 use Rattle.xfs_disk.specs.Blocks.{Image}
 use Rattle.xfs_disk.specs.declared.stamp.Stamp.{Stamp}
 use Rattle.xfs_geom.specs.declared.geometry.Geometry.{Geometry}
-use Rattle.xfs_sizing.specs.Sizes.{IsChosenGeometry, too_small}
-use Rattle.xfs_sizing.specs.declared.asked.SizesAsked.{SizesAsked}
+use Rattle.xfs_empty.specs.Sizes.{IsChosenGeometry, too_small}
+use Rattle.xfs_empty.specs.declared.asked.SizesAsked.{SizesAsked}
 use Rattle.xfs_mkfs.specs.Marks.{is_marked}
 use Rattle.xfs_options.specs.declared.make_words.MakeOptions.{MakeOptions}
 use Rattle.xfs_mkfs.specs.declared.outcome.MakeOutcome.{MakeOutcome}

@@ -12,7 +12,7 @@ use Rattle.xfs_place.specs.declared.faults.Unplaced.{Unplaced}
 use Rattle.xfs_place.specs.declared.faults.PlaceFault.{PlaceFault}
 use Rattle.xfs_place.specs.declared.faults.PlaceFault.TheVariants as Placing
 use Rattle.xfs_render.specs.declared.plan.Plan.{Plan}
-use Rattle.xfs_sizing.specs.Supers.{IsNewSuper}
+use Rattle.xfs_empty.specs.Supers.{IsNewSuper}
 use Rattle.xfs_empty.specs.Placing.{empty_wanted}
 use Rattle.xfs_empty.specs.Planning.{HasRoom, IsEmptyPlan}
 use Rattle.xfs_filled.specs.Planning.{HoldsFiles, IsFilledPlan, LacksRoom}

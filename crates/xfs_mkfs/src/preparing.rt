@@ -9,7 +9,7 @@ ghost use Rattle.xfs_geom.specs.Volumes.{volume_of};
 ghost use Rattle.xfs_render.specs.Drafts.{AreInBank};
 ghost use Rattle.xfs_render.specs.Plans.{plan_rows, planned};
 ghost use Rattle.xfs_empty.specs.Geometry.{HasFirstChunk};
-ghost use Rattle.xfs_sizing.specs.Sizes.{too_small};
+ghost use Rattle.xfs_empty.specs.Sizes.{too_small};
 ghost use Rattle.xfs_mkfs.specs.Marks.{is_marked};
 ghost use Rattle.xfs_mkfs.specs.Due.{IsGeometry, asked_of, identifier, refusal};
 ghost use Rattle.xfs_mkfs.specs.Counts.{CountsReads, IsUnwritten, LooksPartly, looked};
@@ -23,13 +23,12 @@ use std::alloc::Global;
 use std::marker::Sync;
 use std::thread::Threads;
 use xfs_disk::{Disk, Failed, Library, Stamp};
-use xfs_empty::plan_empty;
+use xfs_empty::{SizesAsked, choose, plan_empty, put_super};
 use xfs_filled::plan_filled;
 use xfs_geom::Geometry;
 use xfs_options::MakeOptions;
 use xfs_place::PlaceFault;
 use xfs_render::Plan;
-use xfs_sizing::{SizesAsked, choose, put_super};
 
 /// A volume that is to be written.
 #[derive(Drop)]

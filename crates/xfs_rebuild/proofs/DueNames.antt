@@ -29,13 +29,13 @@ use Rattle.xfs_scan.specs.declared.evidence.Evidence.{Evidence}
 use Rattle.xfs_salvage.specs.Kept.{entries_of_kept, fresh_among, kept_clusters, kept_dirs, kept_files, own_inodes}
 use Rattle.xfs_salvage.specs.declared.found.Salvaged.{Salvaged}
 use Rattle.xfs_salvage.proofs.Ascending.{lower}
-use Rattle.xfs_requested.proofs.Candidates.{image_can}
-use Rattle.xfs_requested.proofs.Inodes.{first_in}
-use Rattle.xfs_requested.proofs.Roots.{root_is, root_kept}
+use Rattle.xfs_made.proofs.Candidates.{image_can}
+use Rattle.xfs_made.proofs.Inodes.{first_in}
+use Rattle.xfs_made.proofs.Roots.{root_is, root_kept}
 use Rattle.xfs_request.specs.Fresh.{new_slot, new_root_core, new_root_slot, new_system_slot}
 use Rattle.xfs_request.specs.Slots.{as_list, attrs_wanted, bare_slot, block_slots, cluster_slots, freed_slot, is_free, kept_slot, links_due, nlink_wanted, slot_listed, slot_of, slot_wanted, state_at, wanted_slots}
 use Rattle.xfs_request.specs.declared.seen.SlotSeen.{SlotSeen}
-use Rattle.xfs_requested.proofs.Spaced.{AreSpaced, inodes_up, kept_spaced}
+use Rattle.xfs_made.proofs.Spaced.{AreSpaced, inodes_up, kept_spaced}
 use Rattle.xfs_rebuild.specs.Found.{IsKept}
 use Rattle.xfs_rebuild.specs.Names.{due_dirs, due_files, linked_files, made_files, made_of, new_file, new_root, with_dir, with_made_files, with_nlink}
 use Rattle.xfs_rebuild.specs.Rebuilds.{Ground, IsGround, slots_asked}

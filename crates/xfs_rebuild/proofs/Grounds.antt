@@ -18,10 +18,10 @@ use Rattle.xfs_render.specs.Readiness.{HasBytes, IsWritable}
 use Rattle.xfs_render.specs.declared.bytes.Bytes.{Bytes}
 use Rattle.xfs_render.specs.declared.wanted_slots.SlotWanted.{SlotWanted}
 use Rattle.xfs_salvage.specs.declared.found.Salvaged.{Salvaged}
-use Rattle.xfs_requested.proofs.Ordered.{clusters_of_volume_ascend, files_have_forks, files_of_volume_ascend}
+use Rattle.xfs_made.proofs.Ordered.{clusters_of_volume_ascend, files_have_forks, files_of_volume_ascend}
 use Rattle.xfs_request.specs.Requests.{volume_wanted}
-use Rattle.xfs_requested.proofs.Spaced.{slots_in_order}
-use Rattle.xfs_requested.proofs.Writable.{can_be_kept, writable}
+use Rattle.xfs_made.proofs.Spaced.{slots_in_order}
+use Rattle.xfs_made.proofs.Writable.{can_be_kept, writable}
 use Rattle.xfs_rebuild.specs.Bytes.{AreAtHand}
 use Rattle.xfs_rebuild.specs.Changes.{CanChangeAll}
 use Rattle.xfs_rebuild.specs.Rebuilds.{Ground, IsFound, asked, slots_asked}

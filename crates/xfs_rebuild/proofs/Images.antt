@@ -20,7 +20,7 @@ use Rattle.xfs_naming.specs.Naming.{NumbersAscend}
 use Rattle.xfs_scan.specs.xfs_slots.Facts.{slot_fact, slot_facts}
 use Rattle.xfs_scan.specs.xfs_slots.Gathered.{bare_if, bare_inodes}
 use Rattle.xfs_rounds.specs.declared.facts.SlotFact.{SlotFact}
-use Rattle.xfs_requested.proofs.Inodes.{inodes_ascend}
+use Rattle.xfs_made.proofs.Inodes.{inodes_ascend}
 use Rattle.xfs_render.specs.Clusters.{slot_in}
 use Rattle.xfs_inodebuild.specs.declared.forks.ForkWanted.{ForkWanted}
 use Rattle.xfs_render.specs.Slots.{CanBase, CanFork, CanMake, forkoff_of, wanted_of}
@@ -31,8 +31,8 @@ use Rattle.xfs_salvage.proofs.Ascending.{lower}
 use Rattle.xfs_salvage.specs.declared.found.Salvaged.{Salvaged}
 use Rattle.xfs_request.specs.Slots.{wanted_slots}
 use Rattle.xfs_request.specs.declared.seen.SlotSeen.{SlotSeen}
-use Rattle.xfs_requested.specs.Handed.{IsKeptOf}
-use Rattle.xfs_requested.proofs.Makeable.{slots_can}
+use Rattle.xfs_made.specs.Handed.{IsKeptOf}
+use Rattle.xfs_made.proofs.Makeable.{slots_can}
 use Rattle.xfs_rebuild.specs.Changes.{CanChange, can_base, can_fork, can_make}
 use Rattle.xfs_rebuild.specs.Seen.{all_seen, inodes_of_clusters, slots_seen}
 

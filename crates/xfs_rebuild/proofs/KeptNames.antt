@@ -18,7 +18,7 @@ use Rattle.xfs_volume.specs.declared.directories.DirRec.{DirRec}
 use Rattle.xfs_volume.specs.declared.files.FileRec.{FileRec}
 use Rattle.xfs_salvage.specs.Kept.{dirs_among, entries_among, entries_of_kept, is_kept_file, kept_dirs, kept_files}
 use Rattle.xfs_salvage.proofs.Ascending.{claiming_ascend, filtered}
-use Rattle.xfs_requested.proofs.Candidates.{image_can}
+use Rattle.xfs_made.proofs.Candidates.{image_can}
 
 -- a number below all others is that of none
 none_at : (test : FileRec → Bool) (n low : ℕ) (files : List FileRec) → n < low → NumbersAscend low (numbers_of files) → is_directory_at (filter test files) n ≡ false

@@ -17,5 +17,4 @@ mod Asked
 pub mod Known
 mod Added
 mod DueNames
-pub use Rattle.xfs_requested.proofs.xfs_made as xfs_made
-pub use Rattle.xfs_requested.proofs as xfs_requested
+pub use Rattle.xfs_made.proofs as xfs_made

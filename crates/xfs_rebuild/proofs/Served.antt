@@ -25,7 +25,7 @@ use Rattle.xfs_salvage.specs.declared.found.Salvaged.{Salvaged}
 use Rattle.xfs_request.specs.Fresh.{new_root_core, new_root_slot, new_slot, new_system_core, new_system_slot}
 use Rattle.xfs_request.specs.Slots.{as_list, attrs_wanted, bare_slot, block_slots, cluster_slots, freed_slot, is_free, kept_slot, links_due, nlink_wanted, slot_listed, slot_of, slot_wanted, state_at, wanted_slots}
 use Rattle.xfs_request.specs.declared.seen.SlotSeen.{SlotSeen}
-use Rattle.xfs_requested.proofs.Spaced.{IsOf, wanted_of_ino}
+use Rattle.xfs_made.proofs.Spaced.{IsOf, wanted_of_ino}
 use Rattle.xfs_rebuild.specs.Changes.{CanChange, CanChangeAll, can_base, can_fork, can_make}
 
 -- what is made anew has the core of a new inode

@@ -12,5 +12,4 @@ pub mod Private
 pub use Rattle.xfs_scan.specs.xfs_slots as xfs_slots
 pub use Rattle.xfs_scan.specs as xfs_scan
 pub use Rattle.xfs_request.specs as xfs_request
-pub use Rattle.xfs_requested.specs.xfs_made as xfs_made
-pub use Rattle.xfs_requested.specs as xfs_requested
+pub use Rattle.xfs_made.specs as xfs_made

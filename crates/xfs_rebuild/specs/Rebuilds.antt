@@ -25,7 +25,7 @@ use Rattle.xfs_request.specs.Cycles.{kept_lsns}
 use Rattle.xfs_request.specs.Requests.{cleared_count, kept_count, volume_wanted}
 use Rattle.xfs_request.specs.Slots.{wanted_slots}
 use Rattle.xfs_request.specs.declared.seen.SlotSeen.{SlotSeen}
-use Rattle.xfs_requested.specs.Handed.{IsKeptOf}
+use Rattle.xfs_made.specs.Handed.{IsKeptOf}
 use Rattle.xfs_rebuild.specs.Bytes.{AreAtHand, AreReadOf, file_lsns}
 use Rattle.xfs_rebuild.specs.Differing.{left_to_write}
 use Rattle.xfs_rebuild.specs.Found.{IsKept, reserved_of, seen_in_evidence}

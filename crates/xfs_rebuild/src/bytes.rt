@@ -20,7 +20,7 @@ use crate::faults::RebuildFault;
 use crate::places::old_places;
 use std::alloc::Global;
 use std::sync::ledger::Ledger;
-use xfs_collections::Steps;
+use xfs_collections::{BlockList, Steps};
 use xfs_disk::{BLOCK_SIZE, Disk, Failed, NoMemory, Stamp};
 use xfs_geom::{Elected, Geometry};
 use xfs_journal::{JournalFault, read_lsns};
@@ -28,7 +28,6 @@ use xfs_log::LogState;
 use xfs_render::{Bytes, SlotWanted};
 use xfs_request::{SlotSeen, due_cycle, kept_lsns};
 use xfs_salvage::Salvaged;
-use xfs_shared::BlockList;
 use xfs_volume::{BlockLsn, FileRec, Records};
 
 /// The bytes of a superblock.

@@ -11,11 +11,11 @@ ghost use Rattle.xfs_render.specs.Slots.{forkoff_of};
 ghost use Rattle.xfs_render.specs.declared.wanted_slots.SlotWanted.{SlotWanted};
 ghost use Rattle.xfs_rebuild.specs.Changes.{CanChange, CanChangeAll, can_base, can_change, can_fork, can_make, is_whole_slot};
 
+use xfs_collections::BlockList;
 use xfs_geom::Geometry;
 use xfs_inode::{fork_bytes, slot_seal};
 use xfs_inodebuild::ForkWanted;
 use xfs_render::{SlotBase, SlotWanted, find_slot};
-use xfs_shared::BlockList;
 use xfs_word::{get8, part, sealed};
 
 /// The slots of a block, and the bytes of a slot.

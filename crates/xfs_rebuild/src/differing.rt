@@ -12,8 +12,8 @@ ghost use Rattle.xfs_rebuild.specs.Refusals.{HasRebuildCause, IsReadRefused};
 
 use crate::faults::RebuildFault;
 use std::alloc::Global;
+use xfs_collections::BlockList;
 use xfs_disk::{BLOCK_SIZE, Disk, Failed, NoMemory};
-use xfs_shared::BlockList;
 use xfs_writing::Row;
 
 /// The rows whose blocks the disk does not hold already, in their order. Each block is read once.

@@ -25,7 +25,7 @@ ghost use Rattle.xfs_salvage.specs.Kept.{entries_of_kept, kept_dirs, kept_files}
 ghost use Rattle.xfs_salvage.specs.declared.found.Salvaged.{Salvaged};
 ghost use Rattle.xfs_request.specs.Slots.{wanted_slots};
 ghost use Rattle.xfs_request.specs.declared.seen.SlotSeen.{SlotSeen};
-ghost use Rattle.xfs_requested.specs.Handed.{IsKeptOf};
+ghost use Rattle.xfs_made.specs.Handed.{IsKeptOf};
 ghost use Rattle.xfs_rebuild.specs.Changes.{CanChange};
 ghost use Rattle.xfs_rebuild.specs.Names.{due_dirs, due_files};
 ghost use Rattle.xfs_rebuild.specs.Rebuilds.{Ground, HasNamesDue, IsGround, slots_asked};

@@ -27,14 +27,13 @@ use crate::seen::slots_found;
 use std::alloc::Global;
 use std::sync::ledger::Ledger;
 use std::thread::Threads;
-use xfs_collections::Steps;
+use xfs_collections::{BlockList, Steps};
 use xfs_disk::{Disk, Gate, NoMemory, Stamp};
 use xfs_geom::Elected;
 use xfs_log::LogState;
 use xfs_request::{Request, SlotSeen, ask};
 use xfs_salvage::{Salvaged, salvage};
 use xfs_scan::Evidence;
-use xfs_shared::BlockList;
 use xfs_volume::{Blocks, Records};
 use xfs_writing::Row;
 

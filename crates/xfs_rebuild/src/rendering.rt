@@ -19,10 +19,10 @@ use crate::faults::RebuildFault;
 use crate::planning::Rebuilt;
 use std::alloc::Global;
 use std::thread::Threads;
+use xfs_collections::BlockList;
 use xfs_disk::{Disk, Gate, NoMemory};
 use xfs_place::{PlaceFault, Placed, Wanted, place};
 use xfs_render::{Bytes, Plan, chunks_are_few, placed_is_ready, render};
-use xfs_shared::BlockList;
 use xfs_volume::Records;
 use xfs_writing::Row;
 

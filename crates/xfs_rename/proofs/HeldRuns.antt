@@ -9,7 +9,7 @@ use Rattle.xfs_geom.specs.Runs.{covers, runs_on}
 use Rattle.xfs_geom.specs.Volumes.{volume_of}
 use Rattle.xfs_geom.specs.declared.geometry.Geometry.{Geometry}
 use Rattle.xfs_geom.specs.declared.records.Run.{Run}
-use Rattle.xfs_rebuild.proofs.xfs_requested.Claims.{cluster_claim}
+use Rattle.xfs_rebuild.proofs.xfs_made.Claims.{cluster_claim}
 use Rattle.xfs_names.specs.declared.records.WantedNames.{WantedNames}
 use Rattle.xfs_place.specs.Choice.{one_if}
 use Rattle.xfs_place.specs.Claims.{IsClaimedRun}

@@ -16,6 +16,5 @@ mod Standing
 mod StayingRuns
 mod Further
 pub use Rattle.xfs_rebuild.proofs.xfs_made as xfs_made
-pub use Rattle.xfs_rebuild.proofs.xfs_requested as xfs_requested
 pub use Rattle.xfs_rebuild.proofs as xfs_rebuild
 pub use Rattle.xfs_changes.proofs.xfs_built as xfs_built

@@ -13,7 +13,7 @@ use Rattle.xfs_geom.specs.declared.geometry.Geometry.{Geometry}
 use Rattle.xfs_geom.specs.declared.records.InoRec.{InoRec}
 use Rattle.xfs_geom.specs.declared.records.Run.{Run}
 use Rattle.xfs_image.specs.Clusters.{root_cluster}
-use Rattle.xfs_rebuild.proofs.xfs_requested.Roots.{root_kept}
+use Rattle.xfs_rebuild.proofs.xfs_made.Roots.{root_kept}
 use Rattle.xfs_kinds.specs.InodeTrees.{ino_shape}
 use Rattle.xfs_names.specs.declared.records.WantedNames.{WantedNames}
 use Rattle.xfs_place.specs.Objects.{IsAsk}
@@ -24,8 +24,8 @@ use Rattle.xfs_place.specs.declared.wanted.Object.{Object}
 use Rattle.xfs_salvage.proofs.xfs_views.Members.{Member, member_all, member_any, member_left, member_map, member_right}
 use Rattle.xfs_render.specs.Readiness.{HasAsker, IsWritable}
 use Rattle.xfs_rebuild.specs.xfs_request.Chunks.{group_asked, inodes_wanted, kept_chunks}
-use Rattle.xfs_rebuild.proofs.xfs_requested.Lawful.{chunks_lawful}
-use Rattle.xfs_rebuild.proofs.xfs_requested.Taken.{among_member}
+use Rattle.xfs_rebuild.proofs.xfs_made.Lawful.{chunks_lawful}
+use Rattle.xfs_rebuild.proofs.xfs_made.Taken.{among_member}
 use Rattle.xfs_salvage.specs.Kept.{run_of_cluster, taken_of}
 use Rattle.xfs_space.specs.Owners.{file_runs}
 use Rattle.xfs_tree.specs.Rules.{are_lawful, is_of_root_cluster}

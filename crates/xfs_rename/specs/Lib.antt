@@ -10,7 +10,6 @@ pub use Rattle.xfs_changes.specs.xfs_empty as xfs_empty
 pub use Rattle.xfs_salvage.specs as xfs_salvage
 pub use Rattle.xfs_rebuild.specs.xfs_request as xfs_request
 pub use Rattle.xfs_rebuild.specs.xfs_made as xfs_made
-pub use Rattle.xfs_rebuild.specs.xfs_requested as xfs_requested
 pub use Rattle.xfs_rebuild.specs as xfs_rebuild
 pub use Rattle.xfs_changes.specs.xfs_built as xfs_built
 pub use Rattle.xfs_changes.specs as xfs_changes

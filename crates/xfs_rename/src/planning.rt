@@ -27,7 +27,7 @@ use std::alloc::Global;
 use std::sync::ledger::Ledger;
 use std::thread::Threads;
 use xfs_changes::{Lost, Ways, blocks_of_built, changes_of, forks_of, with_changes};
-use xfs_collections::Steps;
+use xfs_collections::{BlockList, Steps};
 use xfs_disk::{Disk, Gate, NoMemory, Stamp};
 use xfs_geom::{Elected, Geometry};
 use xfs_place::{PlaceFault, Placed, place};
@@ -36,7 +36,6 @@ use xfs_rebuild::{
 };
 use xfs_render::{Bytes, SlotBase, SlotWanted, chunks_are_few};
 use xfs_salvage::Salvaged;
-use xfs_shared::BlockList;
 use xfs_volume::Records;
 
 /// What is to be written of a volume in which names change.

@@ -1,8 +1,8 @@
 //! What the blocks of a volume are made of.
 
 use crate::wanted_slots::SlotWanted;
+use xfs_collections::BlockList;
 use xfs_disk::Stamp;
-use xfs_shared::BlockList;
 use xfs_volume::{Blocks, Records};
 
 /// What the blocks of a volume are made of, besides what is placed in it.

@@ -4,8 +4,8 @@ ghost use Rattle.std.specs.Prelude.{◌≡◌, ◌≤◌, ◌<◌, ◌*◌, [], 
 ghost use Rattle.xfs_render.specs.Drafts.{AddsAgain, AddsBlock, AddsPart, IsDraft};
 
 use std::alloc::Global;
+use xfs_collections::BlockList;
 use xfs_disk::{BLOCK_SIZE, NoMemory};
-use xfs_shared::BlockList;
 use xfs_word::part;
 use xfs_writing::Row;
 

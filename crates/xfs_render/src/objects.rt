@@ -8,10 +8,10 @@ ghost use Rattle.xfs_render.specs.Objects.{AddsObject, AddsObjects, IsObjectBloc
 use crate::draft::Draft;
 use crate::object_blocks::ObjectBlock;
 use crate::object_seals::{seal_data, seal_free, seal_index, seal_link};
+use xfs_collections::BlockList;
 use xfs_disk::{BLOCK_SIZE, NoMemory};
 use xfs_geom::Geometry;
 use xfs_place::ObjectKind;
-use xfs_shared::BlockList;
 use xfs_word::SealKind;
 
 /// Puts down the blocks of objects, made of the blocks that were built for them.

@@ -1,6 +1,6 @@
 //! The blocks that are to be written.
 
-use xfs_shared::BlockList;
+use xfs_collections::BlockList;
 use xfs_volume::Records;
 use xfs_writing::Row;
 

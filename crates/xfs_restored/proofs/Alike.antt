@@ -9,7 +9,7 @@ use Rattle.xfs_geom.specs.Volumes.{Volume, volume_of}
 use Rattle.xfs_geom.specs.declared.geometry.Geometry.{Geometry}
 use Rattle.xfs_claims.specs.Ranks.{placed_by_number}
 use Rattle.xfs_claims.proofs.Ordered.{Ascend, same_list}
-use Rattle.xfs_rename.proofs.xfs_requested.Inodes.{first_in}
+use Rattle.xfs_rename.proofs.xfs_made.Inodes.{first_in}
 use Rattle.xfs_naming.specs.Naming.{NumbersAscend, is_in_use}
 use Rattle.xfs_views.proofs.Members.{Member, all_members, any_member, filter_member, member_all, member_any, member_filter}
 use Rattle.xfs_volume.specs.declared.directories.DirRec.{DirRec}

@@ -9,9 +9,9 @@ use Rattle.xfs_geom.specs.Volumes.{volume_of}
 use Rattle.xfs_geom.specs.declared.geometry.Geometry.{Geometry}
 use Rattle.xfs_image.specs.Slots.{cluster_inodes}
 use Rattle.xfs_naming.specs.Naming.{NumbersAscend}
-use Rattle.xfs_rename.proofs.xfs_requested.Inodes.{first_in}
+use Rattle.xfs_rename.proofs.xfs_made.Inodes.{first_in}
 use Rattle.xfs_views.proofs.Members.{Member}
-use Rattle.xfs_rename.proofs.xfs_requested.Spaced.{AreSpaced, inodes_up}
+use Rattle.xfs_rename.proofs.xfs_made.Spaced.{AreSpaced, inodes_up}
 use Rattle.xfs_salvage.specs.Kept.{run_of_cluster}
 use Rattle.xfs_rename.specs.xfs_rebuild.declared.names_due.NamesDue.{NamesDue}
 use Rattle.xfs_rename.specs.Lost.{lost_due}

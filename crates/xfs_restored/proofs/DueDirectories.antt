@@ -16,7 +16,7 @@ use Rattle.xfs_image.specs.Candidates.{candidates}
 use Rattle.xfs_image.specs.Claims.{candidate_files}
 use Rattle.xfs_image.specs.Directories.{data_blocks, dir_of, directories, dirs_read, entries_of, entries_of_form, entries_read, is_whole, parent_of, parent_of_form, short_form}
 use Rattle.xfs_image.specs.Slots.{slot_bytes}
-use Rattle.xfs_rename.proofs.xfs_requested.Candidates.{image_can}
+use Rattle.xfs_rename.proofs.xfs_made.Candidates.{image_can}
 use Rattle.xfs_naming.specs.Naming.{AreGrouped, NumbersAscend, is_directory_at, numbers_of}
 use Rattle.xfs_views.proofs.Members.{Member, any_member, filter_member, member_any, member_filter}
 use Rattle.xfs_salvage.proofs.Ascending.{claiming_ascend}

@@ -18,13 +18,13 @@ use Rattle.xfs_inode.specs.declared.files.FileRead.TheVariants as Reads
 use Rattle.xfs_naming.specs.Naming.{NumbersAscend, is_in_use, numbers_of}
 use Rattle.xfs_volume.specs.declared.files.FileRec.{FileRec}
 use Rattle.xfs_volume.specs.declared.groups.GroupRec.{GroupRec}
-use Rattle.xfs_rename.proofs.xfs_requested.Candidates.{image_can}
-use Rattle.xfs_rename.proofs.xfs_requested.Inodes.{first_in}
+use Rattle.xfs_rename.proofs.xfs_made.Candidates.{image_can}
+use Rattle.xfs_rename.proofs.xfs_made.Inodes.{first_in}
 use Rattle.xfs_views.proofs.Members.{Member, all_members, any_member, filter_member, flat_member, map_member, member_all, member_any, member_either, member_flat, member_map}
 use Rattle.xfs_salvage.specs.Kept.{kept_files, own_inodes}
 use Rattle.xfs_salvage.specs.declared.found.Salvaged.{Salvaged}
 use Rattle.xfs_rename.specs.xfs_request.declared.seen.SlotSeen.{SlotSeen}
-use Rattle.xfs_rename.proofs.xfs_requested.Spaced.{AreSpaced, inodes_up, kept_spaced}
+use Rattle.xfs_rename.proofs.xfs_made.Spaced.{AreSpaced, inodes_up, kept_spaced}
 use Rattle.xfs_restored.specs.DueFiles.{due_file, fresh_file, kept_inodes, rebuilt_files, stated_crc, with_new}
 use Rattle.xfs_restored.specs.Kept.{HasKept}
 use Rattle.xfs_restored.proofs.InKept.{file_inode}

@@ -21,7 +21,7 @@ use Rattle.xfs_volume.specs.declared.files.FileRec.{FileRec}
 use Rattle.xfs_salvage.specs.declared.found.Salvaged.{Salvaged}
 use Rattle.xfs_rename.specs.xfs_request.Chunks.{is_inode_used}
 use Rattle.xfs_rename.specs.xfs_request.declared.seen.SlotSeen.{SlotSeen}
-use Rattle.xfs_rename.proofs.xfs_requested.Taken.{among_member}
+use Rattle.xfs_rename.proofs.xfs_made.Taken.{among_member}
 use Rattle.xfs_rename.specs.xfs_rebuild.Names as Names
 use Rattle.xfs_rename.specs.xfs_rebuild.Names.{linked_files}
 use Rattle.xfs_rename.specs.xfs_rebuild.Rebuilds.{Ground}

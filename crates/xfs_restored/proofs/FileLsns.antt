@@ -28,8 +28,8 @@ use Rattle.xfs_space.specs.Owners.{file_runs}
 use Rattle.xfs_volume.specs.Names.{type_of}
 use Rattle.xfs_volume.specs.declared.catalogs.BlockLsn.{BlockLsn}
 use Rattle.xfs_volume.specs.declared.files.FileRec.{FileRec}
-use Rattle.xfs_rename.proofs.xfs_requested.Candidates.{image_can}
-use Rattle.xfs_rename.proofs.xfs_requested.KeptTaken.{are_kept, fixed_covered}
+use Rattle.xfs_rename.proofs.xfs_made.Candidates.{image_can}
+use Rattle.xfs_rename.proofs.xfs_made.KeptTaken.{are_kept, fixed_covered}
 use Rattle.xfs_salvage.specs.Kept.{kept_clusters, kept_files, run_of_cluster, taken_in, taken_of}
 use Rattle.xfs_salvage.specs.declared.found.Salvaged.{Salvaged}
 use Rattle.xfs_rename.specs.xfs_request.declared.seen.SlotSeen.{SlotSeen}

@@ -9,9 +9,9 @@ use Rattle.xfs_image.specs.Candidates.{candidates}
 use Rattle.xfs_image.specs.Claims.{candidate_files}
 use Rattle.xfs_image.specs.Files.{files_at, files_read, inodes_of}
 use Rattle.xfs_image.specs.Slots.{cluster_inodes}
-use Rattle.xfs_rename.proofs.xfs_requested.Candidates.{image_can}
-use Rattle.xfs_rename.proofs.xfs_requested.Inodes.{first_in}
-use Rattle.xfs_rename.proofs.xfs_requested.Spaced.{AreSpaced, kept_spaced}
+use Rattle.xfs_rename.proofs.xfs_made.Candidates.{image_can}
+use Rattle.xfs_rename.proofs.xfs_made.Inodes.{first_in}
+use Rattle.xfs_rename.proofs.xfs_made.Spaced.{AreSpaced, kept_spaced}
 use Rattle.xfs_rename.specs.xfs_scan.declared.evidence.Evidence.{Evidence}
 use Rattle.xfs_volume.specs.declared.groups.GroupRec.{GroupRec}
 use Rattle.xfs_rename.specs.xfs_rebuild.declared.names_due.NamesDue.{NamesDue}

@@ -13,7 +13,7 @@ use Rattle.xfs_render.specs.Slots.{IsSlotDue}
 use Rattle.xfs_rename.specs.xfs_scan.Evidence.{IsEvidence}
 use Rattle.xfs_rename.specs.xfs_scan.declared.evidence.Evidence.{Evidence}
 use Rattle.xfs_salvage.specs.Kept.{entries_of_kept, fresh_inodes, kept_clusters, kept_dirs, kept_files}
-use Rattle.xfs_rename.specs.xfs_requested.Handed.{IsKeptOf}
+use Rattle.xfs_rename.specs.xfs_made.Handed.{IsKeptOf}
 use Rattle.xfs_rename.specs.xfs_rebuild.Rebuilds.{Ground, IsGround, IsRebuildOf, slots_asked}
 use Rattle.xfs_rename.specs.xfs_rebuild.declared.planning.Rebuilt.{Rebuilt}
 use Rattle.xfs_restored.specs.Rewriting.{IsRewritten}

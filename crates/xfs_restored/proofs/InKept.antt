@@ -28,11 +28,11 @@ use Rattle.xfs_views.specs.Standing.{stands}
 use Rattle.xfs_views.proofs.Addresses.{IsPlaced}
 use Rattle.xfs_views.proofs.Images.{candidate_has, candidate_placed, inode_cluster}
 use Rattle.xfs_views.proofs.Members.{Member, all_members, any_member, filter_member, flat_member, map_member, member_all, member_flat, member_map}
-use Rattle.xfs_rename.proofs.xfs_requested.Candidates.{bare_sound, image_can}
+use Rattle.xfs_rename.proofs.xfs_made.Candidates.{bare_sound, image_can}
 use Rattle.xfs_salvage.specs.Kept.{claims_held, is_kept_file, kept_clusters, kept_files}
 use Rattle.xfs_salvage.specs.declared.found.Salvaged.{Salvaged}
-use Rattle.xfs_rename.specs.xfs_requested.Handed.{IsKeptOf}
-use Rattle.xfs_rename.proofs.xfs_requested.Spaced.{each_kept}
+use Rattle.xfs_rename.specs.xfs_made.Handed.{IsKeptOf}
+use Rattle.xfs_rename.proofs.xfs_made.Spaced.{each_kept}
 use Rattle.xfs_restored.specs.DueFiles.{kept_inodes}
 
 -- a file that is held has its cluster held too

@@ -12,7 +12,7 @@ use Rattle.xfs_volume.specs.declared.files.FileRec.{FileRec}
 use Rattle.xfs_rename.specs.xfs_scan.Evidence.{IsEvidence}
 use Rattle.xfs_rename.specs.xfs_scan.declared.evidence.Evidence.{Evidence}
 use Rattle.xfs_views.proofs.FilesStay as FilesStay
-use Rattle.xfs_rename.proofs.xfs_requested.Protected.{protected_stays}
+use Rattle.xfs_rename.proofs.xfs_made.Protected.{protected_stays}
 use Rattle.xfs_views.proofs.Members.{Member, any_member}
 use Rattle.xfs_views.proofs.Files.{file_sound}
 use Rattle.xfs_rename.specs.xfs_request.Slots.{is_bare, links_due, own_blocks, state_at}

@@ -24,15 +24,15 @@ use Rattle.xfs_views.proofs.Chunks.{lawful_chunk}
 use Rattle.xfs_space.specs.Owners.{cluster_run, cluster_runs, clusters_of_chunk, new_run}
 use Rattle.xfs_volume.specs.declared.groups.GroupRec.{GroupRec}
 use Rattle.xfs_rename.specs.xfs_made.Groups.{due_group_at, due_groups}
-use Rattle.xfs_rename.proofs.xfs_requested.Candidates.{image_can}
-use Rattle.xfs_rename.proofs.xfs_requested.Ordered.{clusters_of_volume_ascend}
+use Rattle.xfs_rename.proofs.xfs_made.Candidates.{image_can}
+use Rattle.xfs_rename.proofs.xfs_made.Ordered.{clusters_of_volume_ascend}
 use Rattle.xfs_salvage.specs.Kept.{run_of_cluster}
 use Rattle.xfs_salvage.specs.declared.found.Salvaged.{Salvaged}
 use Rattle.xfs_rename.specs.xfs_request.Requests.{volume_wanted}
-use Rattle.xfs_rename.specs.xfs_requested.Handed.{IsKeptOf}
-use Rattle.xfs_rename.proofs.xfs_requested.Chunked.{IsHalf, kept_halves}
-use Rattle.xfs_rename.proofs.xfs_requested.Clusters.{clusters_are_kept}
-use Rattle.xfs_rename.proofs.xfs_requested.Writable.{writable}
+use Rattle.xfs_rename.specs.xfs_made.Handed.{IsKeptOf}
+use Rattle.xfs_rename.proofs.xfs_made.Chunked.{IsHalf, kept_halves}
+use Rattle.xfs_rename.proofs.xfs_made.Clusters.{clusters_are_kept}
+use Rattle.xfs_rename.proofs.xfs_made.Writable.{writable}
 use Rattle.xfs_restored.specs.DueFiles.{kept_inodes}
 
 abbrev HasMask : InoRec → Type 0

@@ -13,7 +13,7 @@ use Rattle.xfs_geom.specs.declared.geometry.Geometry.{Geometry}
 use Rattle.xfs_image.specs.Candidates.{candidates}
 use Rattle.xfs_image.specs.Claims.{candidate_files}
 use Rattle.xfs_image.specs.Directories.{dir_of, directories, dirs_read, entries_of, entries_read, is_whole, parent_of}
-use Rattle.xfs_rename.proofs.xfs_requested.Candidates.{image_can}
+use Rattle.xfs_rename.proofs.xfs_made.Candidates.{image_can}
 use Rattle.xfs_naming.specs.Naming.{AreGrouped, NumbersAscend, entries_in, file_at, is_directory_at, numbers_of}
 use Rattle.xfs_names.specs.Rebuilt.{is_whole_with}
 use Rattle.xfs_views.proofs.Members.{Member, any_member, filter_member, map_member, member_any, member_filter, member_map}

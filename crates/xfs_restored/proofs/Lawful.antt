@@ -47,9 +47,9 @@ use Rattle.xfs_rename.specs.xfs_request.Chunks.{group_asked, inodes_wanted}
 use Rattle.xfs_rename.specs.xfs_request.Requests.{volume_wanted}
 use Rattle.xfs_rename.specs.xfs_request.Slots.{wanted_slots}
 use Rattle.xfs_rename.specs.xfs_request.declared.seen.SlotSeen.{SlotSeen}
-use Rattle.xfs_rename.specs.xfs_requested.Handed.{IsKeptOf}
-use Rattle.xfs_rename.proofs.xfs_requested.Just.{keeps_just}
-use Rattle.xfs_rename.proofs.xfs_requested.Used.{asked_due}
+use Rattle.xfs_rename.specs.xfs_made.Handed.{IsKeptOf}
+use Rattle.xfs_rename.proofs.xfs_made.Just.{keeps_just}
+use Rattle.xfs_rename.proofs.xfs_made.Used.{asked_due}
 use Rattle.xfs_rename.specs.xfs_rebuild.Names as Names
 use Rattle.xfs_rename.specs.xfs_rebuild.Names.{needs_names}
 use Rattle.xfs_rename.specs.xfs_rebuild.Rebuilds.{Ground, IsRebuildOf, asked}

@@ -27,7 +27,7 @@ use Rattle.xfs_volume.specs.declared.cores.Core.{Core}
 use Rattle.xfs_salvage.specs.declared.found.Salvaged.{Salvaged}
 use Rattle.xfs_rename.specs.xfs_request.Cycles.{keeps_lsn, kept_lsns, lsn_listed}
 use Rattle.xfs_rename.specs.xfs_request.declared.seen.SlotSeen.{SlotSeen}
-use Rattle.xfs_rename.proofs.xfs_requested.Chunked.{IsHalf}
+use Rattle.xfs_rename.proofs.xfs_made.Chunked.{IsHalf}
 use Rattle.xfs_restored.specs.Kept.{all_slots_seen, slot_seen}
 use Rattle.xfs_rename.proofs.xfs_built.SlotNumbers.{slot_back, slot_lsn}
 use Rattle.xfs_restored.specs.StayingNumbers.{IsMadeAnew, IsStayingSlot, StaysKept}

@@ -19,7 +19,7 @@ use Rattle.xfs_volume.specs.declared.files.FileRec.{FileRec}
 use Rattle.xfs_volume.specs.Rest.{no_rest}
 use Rattle.xfs_views.proofs.FilesStay.{free_stays}
 use Rattle.xfs_views.proofs.Members.{Member, any_member, filter_member, member_any, member_flat}
-use Rattle.xfs_rename.proofs.xfs_requested.Roots.{root_kept}
+use Rattle.xfs_rename.proofs.xfs_made.Roots.{root_kept}
 use Rattle.xfs_render.specs.Slots.{IsMadeSlot}
 use Rattle.xfs_render.specs.declared.wanted_slots.SlotWanted.{SlotWanted}
 use Rattle.xfs_salvage.specs.Kept.{fresh_among, own_inodes}

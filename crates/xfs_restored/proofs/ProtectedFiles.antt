@@ -17,9 +17,9 @@ use Rattle.xfs_volume.specs.declared.files.FileRec.{FileRec}
 use Rattle.xfs_rename.specs.xfs_scan.declared.evidence.Evidence.{Evidence}
 use Rattle.xfs_views.proofs.FilesStay as FilesStay
 use Rattle.xfs_views.specs.SameFiles.{HasSameClaims}
-use Rattle.xfs_rename.proofs.xfs_requested.Candidates.{image_can}
-use Rattle.xfs_rename.proofs.xfs_requested.Ordered.{files_of_volume_ascend}
-use Rattle.xfs_rename.proofs.xfs_requested.Protected.{protected_stays}
+use Rattle.xfs_rename.proofs.xfs_made.Candidates.{image_can}
+use Rattle.xfs_rename.proofs.xfs_made.Ordered.{files_of_volume_ascend}
+use Rattle.xfs_rename.proofs.xfs_made.Protected.{protected_stays}
 use Rattle.xfs_names.specs.declared.building.BuiltDirectory.{BuiltDirectory}
 use Rattle.xfs_names.specs.declared.records.WantedNames.{WantedNames}
 use Rattle.xfs_place.specs.declared.placed.Placed.{Placed}
@@ -33,7 +33,7 @@ use Rattle.xfs_rename.specs.declared.planning.Renamed.{Renamed}
 use Rattle.xfs_rename.specs.xfs_built.Directories.{BuiltRuns, with_runs}
 use Rattle.xfs_rename.specs.xfs_request.Slots.{is_bare, own_blocks, state_at}
 use Rattle.xfs_rename.specs.xfs_request.declared.seen.SlotSeen.{SlotSeen}
-use Rattle.xfs_rename.specs.xfs_requested.Handed.{IsKeptOf}
+use Rattle.xfs_rename.specs.xfs_made.Handed.{IsKeptOf}
 use Rattle.xfs_restored.specs.DueFiles.{due_core, stated_crc}
 use Rattle.xfs_restored.specs.Kept.{state_read}
 use Rattle.xfs_restored.proofs.Wanted.{one_alone, state_is}

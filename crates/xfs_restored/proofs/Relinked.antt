@@ -11,7 +11,7 @@ use Rattle.xfs_image.specs.Keeping.{Keeps, Protected}
 use Rattle.xfs_laws.specs.Lawful.{broken_law}
 use Rattle.xfs_rename.specs.xfs_scan.Evidence.{IsEvidence}
 use Rattle.xfs_rename.specs.xfs_scan.declared.evidence.Evidence.{Evidence}
-use Rattle.xfs_rename.proofs.xfs_requested.Candidates.{image_can}
+use Rattle.xfs_rename.proofs.xfs_made.Candidates.{image_can}
 use Rattle.xfs_place.specs.declared.placed.Placed.{Placed}
 use Rattle.xfs_rename.specs.xfs_rebuild.Rebuilds.{Ground, IsFound, IsGround}
 use Rattle.xfs_rename.specs.xfs_rebuild.declared.names_due.NamesDue.{NamesDue}

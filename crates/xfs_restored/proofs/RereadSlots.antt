@@ -23,8 +23,8 @@ use Rattle.xfs_views.specs.SameFiles.{HasSameClaims}
 use Rattle.xfs_views.proofs.FilesStay.{slot_claimed}
 use Rattle.xfs_views.proofs.SlotsRead.{named_same}
 use Rattle.xfs_views.proofs.Members.{Member, all_members, contains, member_all}
-use Rattle.xfs_rename.proofs.xfs_requested.Candidates.{image_can}
-use Rattle.xfs_rename.proofs.xfs_requested.Ordered.{files_of_volume_ascend}
+use Rattle.xfs_rename.proofs.xfs_made.Candidates.{image_can}
+use Rattle.xfs_rename.proofs.xfs_made.Ordered.{files_of_volume_ascend}
 use Rattle.xfs_render.specs.Slots.{DropsAttrs, IsMadeSlot, SetsLinks}
 use Rattle.xfs_render.specs.declared.wanted_slots.SlotBase.TheVariants as Base
 use Rattle.xfs_render.specs.declared.wanted_slots.SlotWanted.{SlotWanted}

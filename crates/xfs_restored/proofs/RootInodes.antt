@@ -10,7 +10,7 @@ use Rattle.xfs_image.specs.Slots.{cluster_blocks, cluster_inodes, inodes_of_bloc
 use Rattle.xfs_laws.proofs.Roots.{root_low}
 use Rattle.xfs_views.proofs.Addresses.{addresses_of}
 use Rattle.xfs_views.proofs.Members.{Member, member_flat, member_map, member_row}
-use Rattle.xfs_rename.proofs.xfs_requested.Roots.{root_is}
+use Rattle.xfs_rename.proofs.xfs_made.Roots.{root_is}
 use Rattle.xfs_space.proofs.FreeSpans.{group_short}
 
 pub low_root : (g : Geometry) → g.rootino < 2 ^ 32

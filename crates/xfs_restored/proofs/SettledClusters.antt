@@ -30,16 +30,16 @@ use Rattle.xfs_views.proofs.Members.{Member, all_members, filter_member, flat_me
 use Rattle.xfs_space.specs.Owners.{file_runs}
 use Rattle.xfs_rename.specs.xfs_scan.declared.evidence.Evidence.{Evidence}
 use Rattle.xfs_rename.specs.xfs_made.Groups.{due_groups}
-use Rattle.xfs_rename.proofs.xfs_requested.Ordered.{clusters_of_volume_ascend}
+use Rattle.xfs_rename.proofs.xfs_made.Ordered.{clusters_of_volume_ascend}
 use Rattle.xfs_salvage.specs.Kept.{run_of_cluster}
 use Rattle.xfs_salvage.specs.declared.found.Salvaged.{Salvaged}
 use Rattle.xfs_rename.specs.xfs_request.Chunks.{inodes_wanted}
 use Rattle.xfs_rename.specs.xfs_request.Requests.{volume_wanted}
-use Rattle.xfs_rename.specs.xfs_requested.Handed.{IsKeptOf}
-use Rattle.xfs_rename.proofs.xfs_requested.Chunked.{IsHalf, kept_halves}
-use Rattle.xfs_rename.proofs.xfs_requested.Lawful.{chunks_lawful}
-use Rattle.xfs_rename.proofs.xfs_requested.Taken.{among_member}
-use Rattle.xfs_rename.proofs.xfs_requested.Writable.{inodes_are}
+use Rattle.xfs_rename.specs.xfs_made.Handed.{IsKeptOf}
+use Rattle.xfs_rename.proofs.xfs_made.Chunked.{IsHalf, kept_halves}
+use Rattle.xfs_rename.proofs.xfs_made.Lawful.{chunks_lawful}
+use Rattle.xfs_rename.proofs.xfs_made.Taken.{among_member}
+use Rattle.xfs_rename.proofs.xfs_made.Writable.{inodes_are}
 use Rattle.xfs_rename.specs.xfs_rebuild.declared.names_due.NamesDue.{NamesDue}
 use Rattle.xfs_restored.proofs.KeptChunks.{asked_clusters_are}
 use Rattle.xfs_rename.specs.Lost.{added_for, cluster_ask, first_of, lost_due, place_due, spared}

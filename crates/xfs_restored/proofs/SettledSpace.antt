@@ -33,8 +33,8 @@ use Rattle.xfs_salvage.specs.Kept.{run_of_cluster}
 use Rattle.xfs_salvage.specs.declared.found.Salvaged.{Salvaged}
 use Rattle.xfs_rename.specs.xfs_request.Chunks.{group_asked, inodes_wanted}
 use Rattle.xfs_rename.specs.xfs_request.Requests.{volume_wanted}
-use Rattle.xfs_rename.proofs.xfs_requested.Clusters.{clusters_are_kept}
-use Rattle.xfs_rename.proofs.xfs_requested.Used.{asked_due}
+use Rattle.xfs_rename.proofs.xfs_made.Clusters.{clusters_are_kept}
+use Rattle.xfs_rename.proofs.xfs_made.Used.{asked_due}
 use Rattle.xfs_rename.specs.xfs_rebuild.declared.names_due.NamesDue.{NamesDue}
 use Rattle.xfs_rename.specs.Lost.{lost_due}
 use Rattle.xfs_rename.specs.Objects.{wanted_with}

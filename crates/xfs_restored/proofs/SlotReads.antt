@@ -34,7 +34,7 @@ use Rattle.xfs_rename.specs.xfs_scan.declared.evidence.Evidence.{Evidence}
 use Rattle.xfs_rename.specs.xfs_request.Fresh.{new_root_core, new_root_fork, new_system_core}
 use Rattle.xfs_rename.specs.xfs_request.Slots.{freed_slot, is_bare, is_free, own_blocks, state_at}
 use Rattle.xfs_rename.specs.xfs_request.declared.seen.SlotSeen.{SlotSeen}
-use Rattle.xfs_rename.specs.xfs_requested.Handed.{IsKeptOf}
+use Rattle.xfs_rename.specs.xfs_made.Handed.{IsKeptOf}
 use Rattle.xfs_rename.specs.xfs_rebuild.Names as Names
 use Rattle.xfs_rename.specs.xfs_rebuild.declared.names_due.NamesDue.{NamesDue}
 use Rattle.xfs_restored.proofs.Standing.{same_size}

@@ -21,7 +21,7 @@ use Rattle.xfs_rename.specs.xfs_scan.declared.evidence.Evidence.{Evidence}
 use Rattle.xfs_views.proofs.FilesStay as FilesStay
 use Rattle.xfs_views.specs.SameFiles.{HasSameClaims}
 use Rattle.xfs_salvage.specs.Kept.{kept_files}
-use Rattle.xfs_rename.proofs.xfs_requested.Protected.{protected_stays}
+use Rattle.xfs_rename.proofs.xfs_made.Protected.{protected_stays}
 use Rattle.xfs_rename.specs.xfs_rebuild.Rebuilds.{Ground, IsPlannedOn, IsRebuildOf}
 use Rattle.xfs_rename.specs.xfs_rebuild.declared.planning.Rebuilt.{Rebuilt}
 use Rattle.xfs_restored.specs.Rewriting.{IsRewritten}

@@ -35,8 +35,8 @@ use Rattle.xfs_render.specs.declared.wanted_slots.SlotWanted.{SlotWanted}
 use Rattle.xfs_rename.specs.xfs_request.Fresh.{new_root_core, new_system_core}
 use Rattle.xfs_rename.specs.xfs_request.Slots.{freed_slot, is_free, state_at}
 use Rattle.xfs_rename.specs.xfs_request.declared.seen.SlotSeen.{SlotSeen}
-use Rattle.xfs_rename.specs.xfs_requested.Handed.{IsKeptOf}
-use Rattle.xfs_rename.proofs.xfs_requested.Taken.{among_member}
+use Rattle.xfs_rename.specs.xfs_made.Handed.{IsKeptOf}
+use Rattle.xfs_rename.proofs.xfs_made.Taken.{among_member}
 use Rattle.xfs_restored.specs.DueFiles.{kept_inodes, new_core}
 use Rattle.xfs_restored.specs.Kept.{slot_seen}
 use Rattle.xfs_restored.proofs.InKept.{of_kept}

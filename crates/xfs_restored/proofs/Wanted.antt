@@ -16,7 +16,7 @@ use Rattle.xfs_render.specs.declared.wanted_slots.SlotWanted.{SlotWanted}
 use Rattle.xfs_salvage.specs.declared.found.Salvaged.{Salvaged}
 use Rattle.xfs_rename.specs.xfs_request.Slots.{as_list, bare_slot, block_slots, cluster_slots, file_slot, first_state, slot_listed, slot_of, slot_wanted, state_at, wanted_slots}
 use Rattle.xfs_rename.specs.xfs_request.declared.seen.SlotSeen.{SlotSeen}
-use Rattle.xfs_rename.proofs.xfs_requested.Spaced.{IsOf, wanted_of_ino}
+use Rattle.xfs_rename.proofs.xfs_made.Spaced.{IsOf, wanted_of_ino}
 use Rattle.xfs_restored.specs.DueFiles.{kept_inodes}
 use Rattle.xfs_restored.specs.Kept.{all_slots_seen, slot_seen, state_read}
 

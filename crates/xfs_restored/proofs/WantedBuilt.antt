@@ -19,7 +19,7 @@ use Rattle.xfs_views.proofs.Members.{Member, any_member, filter_member, map_memb
 use Rattle.xfs_salvage.specs.declared.found.Salvaged.{Salvaged}
 use Rattle.xfs_rename.specs.xfs_request.Fresh.{new_root_core, new_system_core}
 use Rattle.xfs_rename.specs.xfs_request.Slots.{links_due, wanted_slots}
-use Rattle.xfs_rename.proofs.xfs_requested.Taken.{among_member}
+use Rattle.xfs_rename.proofs.xfs_made.Taken.{among_member}
 use Rattle.xfs_rename.specs.xfs_scan.declared.evidence.Evidence.{Evidence}
 use Rattle.xfs_volume.specs.Names.{is_directory, type_of}
 use Rattle.xfs_volume.specs.declared.directories.DirRec.{DirRec}

@@ -22,9 +22,9 @@ use Rattle.xfs_salvage.specs.declared.found.Salvaged.{Salvaged}
 use Rattle.xfs_rename.specs.xfs_request.Fresh.{new_root_core, new_root_fork, new_root_slot, new_slot, new_system_core, new_system_slot}
 use Rattle.xfs_rename.specs.xfs_request.Slots.{attrs_wanted, file_slot, freed_slot, is_free, kept_slot, links_due, nlink_wanted, slot_listed, slot_wanted, state_at}
 use Rattle.xfs_rename.specs.xfs_request.declared.seen.SlotSeen.{SlotSeen}
-use Rattle.xfs_rename.proofs.xfs_requested.Spaced.{AreSpaced, inodes_up, kept_spaced}
-use Rattle.xfs_rename.proofs.xfs_requested.Taken.{among_member}
-use Rattle.xfs_rename.proofs.xfs_requested.Inodes.{first_in}
+use Rattle.xfs_rename.proofs.xfs_made.Spaced.{AreSpaced, inodes_up, kept_spaced}
+use Rattle.xfs_rename.proofs.xfs_made.Taken.{among_member}
+use Rattle.xfs_rename.proofs.xfs_made.Inodes.{first_in}
 use Rattle.xfs_rename.specs.xfs_scan.declared.evidence.Evidence.{Evidence}
 use Rattle.xfs_volume.specs.declared.cores.Core.{Core}
 use Rattle.xfs_volume.specs.declared.files.FileRec.{FileRec}

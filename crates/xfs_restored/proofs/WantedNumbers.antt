@@ -21,13 +21,13 @@ use Rattle.xfs_names.specs.Place.{free_inode, inodes_from, is_free_inode}
 use Rattle.xfs_names.specs.Wanted.{directory_node, wanted_entries, wanted_nodes, with_directory, with_links}
 use Rattle.xfs_names.specs.declared.place.LostPlace.{LostPlace}
 use Rattle.xfs_names.specs.declared.place.LostPlace.TheVariants as place
-use Rattle.xfs_rename.proofs.xfs_requested.Roots.{root_kept}
+use Rattle.xfs_rename.proofs.xfs_made.Roots.{root_kept}
 use Rattle.xfs_views.proofs.Members.{Member, all_members, filter_member, flat_member, map_member, member_any, member_flat, member_map}
 use Rattle.xfs_salvage.specs.Kept.{fresh_among, own_inodes}
 use Rattle.xfs_salvage.specs.declared.found.Salvaged.{Salvaged}
 use Rattle.xfs_rename.specs.xfs_request.Slots.{wanted_slots}
-use Rattle.xfs_rename.proofs.xfs_requested.Taken.{among_member}
-use Rattle.xfs_rename.specs.xfs_requested.Handed.{IsKeptOf}
+use Rattle.xfs_rename.proofs.xfs_made.Taken.{among_member}
+use Rattle.xfs_rename.specs.xfs_made.Handed.{IsKeptOf}
 use Rattle.xfs_rename.specs.xfs_scan.declared.evidence.Evidence.{Evidence}
 use Rattle.xfs_volume.specs.declared.files.FileRec.{FileRec}
 use Rattle.xfs_rename.proofs.xfs_rebuild.Grounds.{files_found}

@@ -16,7 +16,7 @@ use Rattle.xfs_salvage.specs.declared.found.Salvaged.{Salvaged}
 use Rattle.xfs_rename.specs.xfs_request.Fresh.{new_root_core, new_root_slot, new_slot, new_system_core, new_system_slot}
 use Rattle.xfs_rename.specs.xfs_request.Slots.{as_list, attrs_wanted, bare_slot, freed_slot, is_free, kept_slot, links_due, nlink_wanted, slot_listed, slot_of, slot_wanted, state_at, wanted_slots}
 use Rattle.xfs_rename.specs.xfs_request.declared.seen.SlotSeen.{SlotSeen}
-use Rattle.xfs_rename.proofs.xfs_requested.Spaced.{IsOf, wanted_of_ino}
+use Rattle.xfs_rename.proofs.xfs_made.Spaced.{IsOf, wanted_of_ino}
 use Rattle.xfs_rename.specs.xfs_rebuild.Names.{made_files, made_of, new_file}
 use Rattle.xfs_restored.specs.DueFiles.{kept_inodes, new_core}
 use Rattle.xfs_restored.proofs.Wanted.{listed, other_wanted}

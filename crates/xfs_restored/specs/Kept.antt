@@ -20,7 +20,7 @@ use Rattle.xfs_rename.specs.xfs_request.Slots.{wanted_slots}
 use Rattle.xfs_rename.specs.xfs_request.declared.seen.SlotSeen.{SlotSeen}
 use Rattle.xfs_rename.specs.xfs_request.declared.seen.SlotState.{SlotState}
 use Rattle.xfs_rename.specs.xfs_request.declared.seen.SlotState.TheVariants as State
-use Rattle.xfs_rename.specs.xfs_requested.Handed.{IsKeptOf}
+use Rattle.xfs_rename.specs.xfs_made.Handed.{IsKeptOf}
 use Rattle.xfs_restored.specs.DueFiles.{kept_inodes}
 
 -- what is known of a slot by what it reads as

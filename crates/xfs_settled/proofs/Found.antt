@@ -5,7 +5,7 @@ use Rattle.xfs_geom.specs.Volumes.{volume_of}
 use Rattle.xfs_geom.specs.declared.geometry.Geometry.{Geometry}
 use Rattle.xfs_image.specs.Candidates.{candidates}
 use Rattle.xfs_image.specs.Claims.{candidate_files}
-use Rattle.xfs_mend.specs.xfs_requested.Handed.{IsKeptOf}
+use Rattle.xfs_mend.specs.xfs_made.Handed.{IsKeptOf}
 use Rattle.xfs_scan.specs.declared.evidence.Evidence.{Evidence}
 use Rattle.xfs_mend.specs.xfs_rebuild.Rebuilds.{Ground, HasNamesDue, IsFound}
 use Rattle.xfs_mend.specs.xfs_rebuild.declared.names_due.NamesDue.{NamesDue}

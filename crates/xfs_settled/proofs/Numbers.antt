@@ -24,14 +24,14 @@ use Rattle.xfs_names.specs.declared.place.LostPlace.{LostPlace}
 use Rattle.xfs_names.specs.declared.place.LostPlace.TheVariants as place
 use Rattle.xfs_place.specs.Pool.{is_taken}
 use Rattle.xfs_place.specs.declared.wanted.Wanted.{Wanted}
-use Rattle.xfs_mend.proofs.xfs_requested.Roots.{root_kept}
+use Rattle.xfs_mend.proofs.xfs_made.Roots.{root_kept}
 use Rattle.xfs_views.proofs.Members.{Member, any_member, filter_member, flat_member, map_member, member_any, member_flat, member_left, member_map, row_member}
 use Rattle.xfs_salvage.specs.Kept.{fresh_among, own_inodes, run_of_cluster}
 use Rattle.xfs_salvage.specs.declared.found.Salvaged.{Salvaged}
 use Rattle.xfs_space.specs.Owners.{file_runs}
 use Rattle.xfs_request.specs.Requests.{volume_wanted}
 use Rattle.xfs_request.specs.Slots.{wanted_slots}
-use Rattle.xfs_mend.proofs.xfs_requested.Taken.{among_member}
+use Rattle.xfs_mend.proofs.xfs_made.Taken.{among_member}
 use Rattle.xfs_scan.specs.declared.evidence.Evidence.{Evidence}
 use Rattle.xfs_volume.specs.declared.files.FileRec.{FileRec}
 use Rattle.xfs_mend.specs.xfs_rebuild.Names.{due_files, linked_file, linked_files, made_files, new_file}

@@ -33,7 +33,7 @@ use Rattle.xfs_render.specs.declared.wanted_slots.SlotBase.{SlotBase}
 use Rattle.xfs_render.specs.declared.wanted_slots.SlotBase.TheVariants as Base
 use Rattle.xfs_render.specs.declared.wanted_slots.SlotWanted.{SlotWanted}
 use Rattle.xfs_request.specs.Fresh.{new_root_core, new_root_slot, new_slot, new_system_core, new_system_slot}
-use Rattle.xfs_mend.proofs.xfs_requested.Makeable.{slots_can}
+use Rattle.xfs_mend.proofs.xfs_made.Makeable.{slots_can}
 use Rattle.xfs_scan.specs.declared.evidence.Evidence.{Evidence}
 use Rattle.xfs_volume.specs.declared.files.FileRec.{FileRec}
 use Rattle.xfs_mend.specs.xfs_rebuild.Changes.{CanChange, can_fork, can_make, is_whole_slot}

@@ -9,11 +9,11 @@ use Rattle.xfs_geom.specs.declared.geometry.Geometry.{Geometry}
 use Rattle.xfs_image.specs.Slots.{cluster_inodes}
 use Rattle.xfs_naming.specs.Naming.{NumbersAscend}
 use Rattle.xfs_names.specs.declared.records.WantedNames.{WantedNames}
-use Rattle.xfs_mend.proofs.xfs_requested.Inodes.{first_in}
+use Rattle.xfs_mend.proofs.xfs_made.Inodes.{first_in}
 use Rattle.xfs_views.proofs.Members.{all_members}
 use Rattle.xfs_render.specs.declared.wanted_slots.SlotWanted.{SlotWanted}
 use Rattle.xfs_request.specs.Slots.{StandByNumber, slot_listed}
-use Rattle.xfs_mend.proofs.xfs_requested.Spaced.{AreSpaced, inodes_up, kept_spaced}
+use Rattle.xfs_mend.proofs.xfs_made.Spaced.{AreSpaced, inodes_up, kept_spaced}
 use Rattle.xfs_salvage.proofs.Ascending.{lower}
 use Rattle.xfs_scan.specs.declared.evidence.Evidence.{Evidence}
 use Rattle.xfs_volume.specs.declared.files.FileRec.{FileRec}

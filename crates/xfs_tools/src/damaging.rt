@@ -13,8 +13,8 @@ ghost use Rattle.xfs_tools.specs.Damaging.{IsDamaging, IsWithin, damage_answer, 
 
 use crate::answer::Answer;
 use std::alloc::Global;
+use xfs_collections::BlockList;
 use xfs_disk::{BLOCK_SIZE, Disk, Failed, NoMemory};
-use xfs_shared::BlockList;
 use xfs_word::get32;
 use xfs_writing::{Row, write_parts};
 

@@ -4,7 +4,8 @@ use Rattle.std.specs.List.{range_with_len}
 use Rattle.std.proofs.lemmas.Nat.{and_mask}
 use Rattle.std.proofs.lemmas.List.FromFn.{get_or-map-range_with_len}
 use Rattle.xfs_word.specs.Crc.{after_zeros}
-use Rattle.xfs_word.specs.declared.tables.TheConstants.{FAR_TABLES, TABLES}
+use Rattle.xfs_word.specs.declared.far_tables.TheConstants.{FAR_TABLES}
+use Rattle.xfs_word.specs.declared.tables.TheConstants.{TABLES}
 
 -- what each byte leaves after 8 * k zero bits
 unfoldable pub row : ℕ → List ℕ

@@ -5,7 +5,8 @@ ghost use Rattle.xfs_word.specs.Crc.{after_byte, after_bytes, after_zeros, crc_o
 ghost use Rattle.xfs_word.specs.Private.Zeros.{AreManyZeros, AreSixteenZeros, BeginsWithZeros};
 ghost use Rattle.xfs_word.specs.Field.{is_width, SameBeside, KeepsBeside, KeepsParts};
 
-use crate::tables::{FAR_TABLES, TABLES};
+use crate::far_tables::FAR_TABLES;
+use crate::tables::TABLES;
 use byteorder::{ByteOrder, LittleEndian};
 
 /// The CRC-32C of `bytes`.

@@ -17,6 +17,7 @@
 
 mod checksum;
 mod extents;
+mod far_tables;
 mod fields;
 mod kinds;
 mod layout;

@@ -11,8 +11,8 @@ ghost use Rattle.xfs_writing.specs.Writing.{IsPartly, written, writes_of_rows};
 ghost use Rattle.xfs_writing.specs.declared.rows.Row.{Row};
 
 use crate::rows::Row;
+use xfs_collections::BlockList;
 use xfs_disk::{Disk, Failed};
-use xfs_shared::BlockList;
 
 /// Writes blocks of a bank: a sync, those of the first rows in order, a sync, those of the last rows in order, and a sync. After
 /// an `Err` so many blocks were written.

@@ -17,7 +17,7 @@ use Rattle.xfs_salvage.specs.declared.found.Salvaged.{Salvaged}
 use Rattle.xfs_rename.specs.xfs_request.Chunks.{is_inode_used}
 use Rattle.xfs_rename.specs.xfs_request.Requests.{volume_wanted}
 use Rattle.xfs_rename.specs.xfs_request.declared.seen.SlotSeen.{SlotSeen}
-use Rattle.xfs_rename.specs.xfs_requested.Handed.{IsKeptOf}
+use Rattle.xfs_rename.specs.xfs_made.Handed.{IsKeptOf}
 use Rattle.xfs_restored.specs.DueFiles.{kept_inodes, rebuilt_files, stated_crc}
 use Rattle.xfs_restored.specs.Kept.{HasKept}
 

@@ -3,7 +3,7 @@ use Rattle.std.proofs.Common.{◌≡◌, ◌≤◌, ℕ, true, false, None, Some
 use Rattle.xfs_disk.proofs.Reading.{reads_on}
 use Rattle.xfs_geom.specs.Volumes.{volume_of}
 use Rattle.xfs_empty.proofs.Kept.{many}
-use Rattle.xfs_sizing.specs.Sizes.{too_small}
+use Rattle.xfs_empty.specs.Sizes.{too_small}
 use Rattle.xfs_mkfs.specs.Counts.{LooksPartly, looked}
 use Rattle.xfs_mkfs.specs.Due.{asked_of}
 use Rattle.xfs_mkfs.proofs.Failing.{caused_read, due_read, early_read, reads_failed, reads_nothing, rose_later}

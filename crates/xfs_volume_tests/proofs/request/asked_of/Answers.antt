@@ -4,7 +4,7 @@ use Rattle.xfs_geom.specs.Volumes.{volume_of}
 use Rattle.xfs_naming.specs.Naming.{NumbersAscend, numbers_of}
 use Rattle.xfs_space.specs.Parts.{HasLawfulForks}
 use Rattle.xfs_volume.specs.declared.files.FileRec.{FileRec}
-use Rattle.xfs_requested.proofs.Ordered.{clusters_of_volume_ascend, files_of_volume_ascend, files_have_forks}
+use Rattle.xfs_made.proofs.Ordered.{clusters_of_volume_ascend, files_of_volume_ascend, files_have_forks}
 use Rattle.xfs_volume_tests.proofs.Rising.{files_in_order}
 use Rattle.xfs_volume_tests.proofs.request.asked_of.Goals as goal
 

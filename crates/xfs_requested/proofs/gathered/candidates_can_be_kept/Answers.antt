@@ -1,5 +1,0 @@
-use Rattle.xfs_requested.proofs.Candidates.{image_can}
-use Rattle.xfs_requested.proofs.gathered.candidates_can_be_kept.Goals as goal
-
-pub returns : goal.returns
-returns c = image_can

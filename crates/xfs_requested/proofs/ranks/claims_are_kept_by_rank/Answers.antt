@@ -1,5 +1,0 @@
-use Rattle.xfs_requested.proofs.Different.{ranked_kept}
-use Rattle.xfs_requested.proofs.ranks.claims_are_kept_by_rank.Goals as goal
-
-pub returns : goal.returns
-returns c = ranked_kept

@@ -1,5 +1,0 @@
-use Rattle.xfs_requested.proofs.Roots.{root_kept}
-use Rattle.xfs_requested.proofs.staying.root_clusters_are_kept.Goals as goal
-
-pub returns : goal.returns
-returns c = root_kept

@@ -1,3 +1,0 @@
-pub mod Ranked
-pub mod Handed
-pub use Rattle.xfs_made.specs as xfs_made
