@@ -4,14 +4,14 @@ ghost use Rattle.std.specs.Prelude.{◌≡◌, ◌+◌, ◌^◌, [], ◌∷◌, 
 ghost use Rattle.xfs_word.specs.Seal.{layout_of};
 ghost use Rattle.xfs_volume_tests.specs.Rendered.{AreAsked};
 
+use super::wanted::plan_of;
+use super::{block_of, due_disk, planned_disk};
 use crate::checks::{compare_at, equal, must, sure};
 use crate::text::{Row, line_at, line_count, put_parts, refuse};
 use std::alloc::{AllocError, Global};
 use std::marker::Sync;
 use std::process::Abort;
 use std::thread::Threads;
-use super::wanted::plan_of;
-use super::{block_of, due_disk, planned_disk};
 use xfs_collections::BlockList;
 use xfs_disk::{BLOCK_SIZE, NoMemory};
 use xfs_place::{Object, ObjectKind, RunAsk};

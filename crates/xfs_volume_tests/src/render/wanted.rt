@@ -6,13 +6,13 @@ ghost use Rattle.xfs_geom.specs.Writing.{IsAcceptedSector};
 ghost use Rattle.xfs_empty.specs.Geometry.{HasFirstChunk};
 ghost use Rattle.xfs_volume_tests.specs.Rendered.{AreAsked, AreSmallBytes, AreSmallInodes, IsSmall, small_chunks};
 
+use super::slots::list_slots;
 use crate::checks::must;
 use crate::text::refuse;
 use std::alloc::{AllocError, Global};
 use std::marker::Sync;
 use std::process::Abort;
 use std::thread::Threads;
-use super::slots::list_slots;
 use xfs_collections::BlockList;
 use xfs_disk::{BLOCK_SIZE, NoGate, NoMemory, Stamp};
 use xfs_empty::{empty_bytes, empty_wanted};
