@@ -23,19 +23,18 @@ fn word(rt: &impl Abort, system: &HostRuntime, bytes: &[u8]) -> Word {
 
 #[test]
 fn a_file_is_a_disk_of_its_whole_blocks(rt: HostRuntime) {
-    let rt = &rt;
-    let path = path_of(rt, rt, "disk");
-    let bytes = must(rt, vec![in rt.alloc(); 1u8; 2 * BLOCK_SIZE + 100]);
-    must(rt, fs::write(rt, path.as_path(), bytes.as_slice()));
-    let mut disk = opened(rt, rt, &path);
+    let path = path_of(&rt, &rt, "disk");
+    let bytes = must(&rt, vec![in rt.alloc(); 1u8; 2 * BLOCK_SIZE + 100]);
+    must(&rt, fs::write(&rt, path.as_path(), bytes.as_slice()));
+    let mut disk = opened(&rt, &rt, &path);
     assert!(rt; matches!(disk.blocks(), Ok(2)));
-    equal(rt, disk.write(1, &[2; BLOCK_SIZE]), Ok(()));
-    equal(rt, disk.sync(), Ok(()));
-    are_read(rt, &mut disk);
-    holds(rt, rt, &path, bytes);
-    cut(rt, rt, &path);
-    does_not_read(rt, &mut disk);
-    must(rt, fs::remove_file(rt, path.as_path()));
+    equal(&rt, disk.write(1, &[2; BLOCK_SIZE]), Ok(()));
+    equal(&rt, disk.sync(), Ok(()));
+    are_read(&rt, &mut disk);
+    holds(&rt, &rt, &path, bytes);
+    cut(&rt, &rt, &path);
+    does_not_read(&rt, &mut disk);
+    must(&rt, fs::remove_file(&rt, path.as_path()));
 }
 
 /// The options that a disk is opened with.
